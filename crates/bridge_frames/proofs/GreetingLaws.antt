@@ -1,5 +1,6 @@
 -- What nodes say first is read as it is spelled.
-use Rattle.std.proofs.Common.{◌≡◌, ◌^◌, ◌<◌, ℕ, nat_eq, List, ◌++◌, Ok, refl, sym, ap, subst, eqb→eq, arith}
+use Rattle.std.proofs.Common.{◌≡◌, ◌^◌, ◌<◌, ℕ, nat_eq, List, ◌++◌, Result, Ok, Err, refl, sym, ap, ◌∙◌, subst, append_assoc, eqb→eq, arith}
+use Rattle.std.specs.Prelude.{OnOk}
 use Rattle.std.proofs.lemmas.Bool.{lt-ltb}
 use lib.Dec.{T}
 use Rattle.mqtt_fields.specs.declared.fault.FieldFault.TheVariants.{Malformed}
@@ -50,6 +51,22 @@ greeting_is = seen_fits greeting_of greeting_parts parts parts_back (λ _. refl)
 
 number_fits : (n : ℕ) → n < 2 ^ 62 → got_number.Fits n
 number_fits n below = (omega (arith, below), lt-ltb n (2 ^ 62) below)
+
+-- its parts, one after the other
+pub all_written : (start one two three four : List ℕ) (g : Greeting) → one ≡ start ++ format.bytes 1 → two ≡ one ++ got_number.bytes g.gone → three ≡ two ++ got_number.bytes g.took → four ≡ three ++ context.bytes g.dots
+    → four ≡ start ++ greeting.bytes g
+unfolding greeting
+all_written start one two three four g a b c d =
+    let F = format.bytes 1 in
+    let X = got_number.bytes g.gone in
+    let Y = got_number.bytes g.took in
+    let Z = context.bytes g.dots in
+    d ∙ ap (λ (w : List ℕ). w ++ Z) (c ∙ ap (λ (w : List ℕ). w ++ Y) (b ∙ ap (λ (w : List ℕ). w ++ X) a))
+    ∙ append_assoc ((start ++ F) ++ X) Y Z ∙ append_assoc (start ++ F) X (Y ++ Z) ∙ append_assoc start F (X ++ (Y ++ Z))
+
+pub if_ok : {A E P Q : Type 0} (r : Result A E) → (P → Q) → OnOk r P → OnOk r Q
+if_ok (Ok a) f p = f p
+if_ok (Err e) f p = p
 
 -- numbers that lanes give, and dots that have a spelling
 pub greeting_fits : (g : Greeting) → g.gone < 2 ^ 62 → g.took < 2 ^ 62 → contexts.HasSpelling g.dots → greeting.Fits g

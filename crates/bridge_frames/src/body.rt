@@ -1,7 +1,7 @@
 //! What a frame says.
 ghost use Rattle.std.specs.Prelude.{◌≡◌, ◌<◌, ◌++◌, ◌^◌, length, take, IfOk, IsErrOf, OnErr, OnOk};
 ghost use Rattle.mqtt_fields.specs.Reading.{Gives};
-ghost use Rattle.bridge_frames.specs.Forwards.{got_number, lane_number, numbered};
+ghost use Rattle.bridge_frames.specs.Forwards.{lane_number, numbered};
 ghost use Rattle.bridge_frames.specs.Frames as spec;
 ghost use Rattle.bridge_frames.specs.Memory.{BodyWants, CopyWants, ForwardWants, GreetingWants};
 ghost use Rattle.causal_context.specs.Spelling as contexts;
@@ -10,7 +10,7 @@ ghost use Rattle.replica_bytes.specs.Memory as states;
 use crate::forward::Forward;
 use crate::greeting::Greeting;
 use crate::kind::Kind;
-use crate::number::{LaneNumber, number_at};
+use crate::number::{LaneNumber, number_at, put_number};
 use causal_context::Context;
 use mqtt_fields::{FieldFault, NUMBERS_END, NoMemory, put_u64, u64_at};
 use replica_bytes::{read_store, write_store};
@@ -53,14 +53,6 @@ fn append_forward(number: LaneNumber, forward: &Forward, out: &mut Vec<u8>) -> R
     forward.has_spelling();
     put_u64(number.get(), out)?;
     forward.append(out)
-}
-
-fn append_got(number: LaneNumber, out: &mut Vec<u8>) -> Result<(), NoMemory>
-    ensures ok { OnOk result (out.new.items ≡ out.old.items ++ got_number.bytes number) }
-    ensures spelling { got_number.Fits number }
-    ensures err { OnErr result (out.new.items ≡ out.old.items) }
-{
-    put_u64(number.get(), out)
 }
 
 impl FrameBody {
@@ -106,7 +98,7 @@ impl FrameBody {
             FrameBody::Delta(state) => write_store(state, out),
             FrameBody::Know(dots) => dots.write(out),
             FrameBody::Forward(number, forward) => append_forward(*number, forward, out),
-            FrameBody::Got(number) => append_got(*number, out),
+            FrameBody::Got(number) => put_number(*number, out),
         }
     }
 }

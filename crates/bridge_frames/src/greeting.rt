@@ -5,9 +5,9 @@ ghost use Rattle.mqtt_fields.specs.Reading.{Gives};
 ghost use Rattle.bridge_frames.specs.Greetings as spec;
 ghost use Rattle.bridge_frames.specs.Memory.{GreetingWants};
 
-use crate::number::{LaneNumber, number_at};
+use crate::number::{LaneNumber, number_at, put_number};
 use causal_context::Context;
-use mqtt_fields::{FieldFault, NoMemory, put_u16, put_u64, u16_at};
+use mqtt_fields::{FieldFault, NoMemory, put_u16, u16_at};
 use std::alloc::Global;
 
 /// The one format of a Hello.
@@ -66,8 +66,8 @@ impl Greeting {
         ensures begins { take (length out.old.items) out.new.items ≡ out.old.items }
     {
         put_u16(FORMAT, out)?;
-        put_u64(self.gone.get(), out)?;
-        put_u64(self.took.get(), out)?;
+        put_number(self.gone, out)?;
+        put_number(self.took, out)?;
         self.dots.write(out)
     }
 

@@ -1,9 +1,9 @@
 //! The numbers of messages in a lane.
-ghost use Rattle.std.specs.Prelude.{◌≡◌, ◌<◌, ◌^◌, IfOk, IsErrOf};
+ghost use Rattle.std.specs.Prelude.{◌≡◌, ◌<◌, ◌++◌, ◌^◌, IfOk, IsErrOf, OnErr, OnOk};
 ghost use Rattle.mqtt_fields.specs.Reading.{Gives};
 ghost use Rattle.bridge_frames.specs.Forwards.{got_number};
 
-use mqtt_fields::{FieldFault, NUMBERS_END, u64_at};
+use mqtt_fields::{FieldFault, NUMBERS_END, NoMemory, put_u64, u64_at};
 use std::marker::Model;
 
 /// The number of a message in the lane from one node to another, or 0 for none: below 2^62. Contracts see the number.
@@ -55,4 +55,13 @@ pub(crate) fn number_at(bytes: &[u8]) -> Result<(u64, &[u8]), FieldFault>
         return Err(FieldFault::Malformed);
     }
     Ok((number, rest))
+}
+
+/// Appends the number. Where memory runs out `out` stays as it was.
+pub(crate) fn put_number(number: LaneNumber, out: &mut Vec<u8>) -> Result<(), NoMemory>
+    ensures ok { OnOk result (out.new.items ≡ out.old.items ++ got_number.bytes number) }
+    ensures spelling { got_number.Fits number }
+    ensures err { OnErr result (out.new.items ≡ out.old.items) }
+{
+    put_u64(number.get(), out)
 }

@@ -17,12 +17,13 @@ use Rattle.bridge_frames.specs.declared.body.FrameBody.{FrameBody}
 use Rattle.bridge_frames.specs.declared.body.FrameBody.TheVariants.{Hello, Delta, Know, Forward as Carried, Got}
 use Rattle.bridge_frames.specs.declared.forward.Forward.{Forward}
 use Rattle.bridge_frames.specs.declared.frame.BridgeFrame.{BridgeFrame}
+use Rattle.bridge_frames.specs.declared.greeting.Greeting.{Greeting}
 use Rattle.bridge_frames.specs.Frames.{frame_in}
 use Rattle.bridge_routes.specs.declared.plain.PlainCopy.{PlainCopy as Copy}
 use Rattle.bridge_routes.specs.declared.destinations.Route.{Route}
 use Rattle.bridge_routes.specs.declared.destinations.Route.TheVariants.{Nothing, Lane, TooLarge}
 use Rattle.home_table.specs.Table.{Table}
-use Rattle.node_bridge.specs.View.{is_next, lane_to}
+use Rattle.node_bridge.specs.View.{greeting_for, is_next, is_older, lane_to}
 use Rattle.replica_store.specs.States.{State}
 use Rattle.session_table.specs.Dues.{Due}
 use Rattle.law_sessions.specs.Runs.{Event, connects, queues, rooms, answers, closes, ticks}
@@ -35,7 +36,7 @@ use Rattle.node_work.specs.declared.outcome.Output.TheVariants.{Send, Close}
 use Rattle.node_work.specs.Acts.{Act, StoreAct, MomentTaken, Began, Moved, Store, Made, Merged, Connection, Session, Bridge, Out, Named, Acknowledged, Passed, Dropped}
 use Rattle.node_work.specs.Calling.{Calls, Queues, QueuesOne}
 use Rattle.node_work.specs.Doings.{Sends, Disconnects, Redirects, Misses, PutsInLane, RoutesBy, Routes, TakesMoment, GivesBody, GivesFrame, is_small}
-use Rattle.node_work.specs.Held.Bridge.{Took, Gave, Got as GotBy, Believed, Left_out}
+use Rattle.node_work.specs.Held.Bridge.{Took, Gave, Got as GotBy, Believed, Left_out, Greeted, Cleared}
 use Rattle.node_work.specs.Held.Connections.{Opened, Accepted, Roomed, Closed, Fed, is_open, client_at, first_at, room_at}
 use Rattle.node_work.specs.Held.Feeding.{cut_of}
 use Rattle.node_work.specs.Held.Sessions.{SessionAct, Begun, Called, Over, takes_disconnect, takes_packet, will_is_due, end_is_due, connection_at, has_session}
@@ -396,19 +397,24 @@ module _ (K : (A : Type 0) → (Option A → Doing) → Type 0) (w : Walks K) wh
         gives : (peer : ℕ) (body : HeldView → FrameBody) → Does (GivesBody peer body)
         gives peer body = w.looks (λ p h. record { from = p.id; to = peer; body = body h }) GivesFrame gives_frame
 
+        says_hello : (peer : ℕ) → Does (bridge.SaysHello peer)
+        says_hello peer = gives peer (λ h. Hello (greeting_for peer h.bridge h.store))
+
         greets : (peer : ℕ) → Does (bridge.Greets peer)
         greets peer =
-            w.looks (λ p h. is_other p peer) (λ other. If other (GivesBody peer (λ h. Hello)) (Returns tt))
-            (λ other. w.by_test other (GivesBody peer (λ h. Hello)) (Returns tt) (gives peer (λ h. Hello)) (w.returns tt))
+            w.looks (λ p h. is_other p peer) (λ other. If other (bridge.SaysHello peer) (Returns tt)) (λ other. w.by_test other (bridge.SaysHello peer) (Returns tt) (says_hello peer) (w.returns tt))
 
         gives_state : (peer : ℕ) (s : Option State) → Does (bridge.GivesState peer s)
         gives_state peer None = w.returns tt
         gives_state peer (Some s) = gives peer (λ h. Delta s)
 
-        ships_to : (peer : ℕ) → Does (bridge.ShipsTo peer)
-        ships_to peer =
+        ships_what_waits : (peer : ℕ) → Does (bridge.ShipsWhatWaits peer)
+        ships_what_waits peer =
             w.join (bridge.ShipsState peer) (λ _. bridge.ShipsMessages peer) (w.finds (bridge.AreShipped peer) (bridge.GivesState peer) (gives_state peer))
             (λ _. w.looks (λ p h. first_frames p.id peer (lane_to h.bridge peer)) (Each GivesFrame) (λ fs. each GivesFrame fs gives_frame))
+
+        ships_to : (peer : ℕ) → Does (bridge.ShipsTo peer)
+        ships_to peer = w.join (Acting (λ p h. Bridge (Cleared peer))) (λ _. bridge.ShipsWhatWaits peer) (w.acting (λ p h. Bridge (Cleared peer)) (λ p h. tt)) (λ _. ships_what_waits peer)
 
         ships : (peer : ℕ) → Does (bridge.Ships peer)
         ships peer =
@@ -423,8 +429,18 @@ module _ (K : (A : Type 0) → (Option A → Doing) → Type 0) (w : Walks K) wh
             w.looks (λ p h. is_next from number h.bridge) (λ next. If next (passing.TakesForward from number m) (Returns tt))
             (λ next. w.by_test next (passing.TakesForward from number m) (Returns tt) (takes_forward from number m) (w.returns tt))
 
+        answers_hello : (from : ℕ) (older : Bool) → Does (bridge.AnswersHello from older)
+        answers_hello from older =
+            w.join (bridge.TellsTaken from) (λ _. If older (bridge.SaysHello from) (Returns tt)) (gives from (λ h. Know h.store.taken))
+            (λ _. w.by_test older (bridge.SaysHello from) (Returns tt) (says_hello from) (w.returns tt))
+
+        takes_hello : (from : ℕ) (g : Greeting) → Does (bridge.TakesHello from g)
+        takes_hello from g =
+            w.looks (λ p h. is_older from g.took h.bridge) (λ older. Then (Acting (λ p h. Bridge (Greeted from g))) (λ _. bridge.AnswersHello from older))
+            (λ older. w.join (Acting (λ p h. Bridge (Greeted from g))) (λ _. bridge.AnswersHello from older) (w.acting (λ p h. Bridge (Greeted from g)) (λ p h. tt)) (λ _. answers_hello from older))
+
         takes_body : (from : ℕ) (body : FrameBody) → Does (bridge.TakesBody from body)
-        takes_body from Hello = tells_taken from
+        takes_body from (Hello g) = takes_hello from g
         takes_body from (Delta s) = w.join (Acting (λ p h. Store (Merged s))) (λ _. bridge.TellsTaken from) (w.acting (λ p h. Store (Merged s)) (λ p h. tt)) (λ _. tells_taken from)
         takes_body from (Know dots) = w.acting (λ p h. Bridge (Believed from dots)) (λ p h. tt)
         takes_body from (Carried number m) =

@@ -1,5 +1,5 @@
 -- What a node makes of each event.
-use Rattle.std.proofs.Common.{refl, ℕ, ◌^◌, nat_lt, not, List, Option, Some, None}
+use Rattle.std.proofs.Common.{refl, ℕ, Bool, ◌^◌, nat_lt, not, List, Option, Some, None}
 use Rattle.std.specs.FinMap as map
 use Rattle.mqtt_packets.specs.declared.fault.PacketFault.{PacketFault}
 use Rattle.mqtt_packets.specs.declared.packet.Packet.{Packet}
@@ -13,15 +13,16 @@ use Rattle.bridge_frames.specs.declared.body.FrameBody.{FrameBody}
 use Rattle.bridge_frames.specs.declared.body.FrameBody.TheVariants.{Hello, Delta, Know, Forward, Got}
 use Rattle.bridge_frames.specs.declared.forward.Forward.{Forward as Message}
 use Rattle.bridge_frames.specs.declared.frame.BridgeFrame.{BridgeFrame}
+use Rattle.bridge_frames.specs.declared.greeting.Greeting.{Greeting}
 use Rattle.bridge_frames.specs.Frames.{frame_in}
 use Rattle.home_table.specs.Table.{Table}
-use Rattle.node_bridge.specs.View.{is_next, lane_to}
+use Rattle.node_bridge.specs.View.{greeting_for, is_next, is_older, lane_to}
 use Rattle.replica_store.specs.States.{State}
 use Rattle.node_work.specs.declared.counts.Missed.TheVariants.{BadFrame, FrameTooLarge, TableRefused}
 use Rattle.node_work.specs.Acts.{MomentTaken, Began, Moved, Store, Connection, Bridge, Merged}
 use Rattle.node_work.specs.Calling.{Calls}
 use Rattle.node_work.specs.Doings.{TakesMoment, Removes, Misses, GivesBody, GivesFrame, is_small}
-use Rattle.node_work.specs.Held.Bridge.{Gave, Got as GotBy, Believed}
+use Rattle.node_work.specs.Held.Bridge.{Gave, Got as GotBy, Believed, Greeted, Cleared}
 use Rattle.node_work.specs.Held.Feeding.{cut_of}
 use Rattle.node_work.specs.Held.Connections.{Closed, Fed, Opened, Roomed, is_open, client_at, first_at}
 use Rattle.node_work.specs.Frames.{is_for_node, is_other}
@@ -161,19 +162,24 @@ module _ (T : Property) (j : Joins T) (serves : (c : ℕ) (client : List ℕ) (k
   gives : (peer : ℕ) (body : HeldView → FrameBody) → Keeps T (GivesBody peer body)
   gives peer body = k_looks T j (λ p h. record { from = p.id; to = peer; body = body h }) GivesFrame gives_frame
 
+  says_hello : (peer : ℕ) → Keeps T (bridge.SaysHello peer)
+  says_hello peer = gives peer (λ h. Hello (greeting_for peer h.bridge h.store))
+
   greets : (peer : ℕ) → Keeps T (bridge.Greets peer)
   greets peer =
-      k_looks T j (λ p h. is_other p peer) (λ other. If other (GivesBody peer (λ h. Hello)) (Returns tt))
-      (λ other. k_if T j other (GivesBody peer (λ h. Hello)) (Returns tt) (gives peer (λ h. Hello)) (k_returns T j tt))
+      k_looks T j (λ p h. is_other p peer) (λ other. If other (bridge.SaysHello peer) (Returns tt)) (λ other. k_if T j other (bridge.SaysHello peer) (Returns tt) (says_hello peer) (k_returns T j tt))
 
   gives_state : (peer : ℕ) (s : Option State) → Keeps T (bridge.GivesState peer s)
   gives_state peer None = k_returns T j tt
   gives_state peer (Some s) = gives peer (λ h. Delta s)
 
-  ships_to : (peer : ℕ) → Keeps T (bridge.ShipsTo peer)
-  ships_to peer =
+  ships_what_waits : (peer : ℕ) → Keeps T (bridge.ShipsWhatWaits peer)
+  ships_what_waits peer =
       k_then T j (bridge.ShipsState peer) (λ _. bridge.ShipsMessages peer) (k_finds T j (bridge.AreShipped peer) (bridge.GivesState peer) (gives_state peer))
       (λ _. k_looks T j (λ p h. first_frames p.id peer (lane_to h.bridge peer)) (Each GivesFrame) (λ fs. k_each T j GivesFrame fs gives_frame))
+
+  ships_to : (peer : ℕ) → Keeps T (bridge.ShipsTo peer)
+  ships_to peer = k_then T j (Acting (λ p h. Bridge (Cleared peer))) (λ _. bridge.ShipsWhatWaits peer) (k_acting T j (λ p h. Bridge (Cleared peer)) (λ p h. tt)) (λ _. ships_what_waits peer)
 
   ships : (peer : ℕ) → Keeps T (bridge.Ships peer)
   ships peer =
@@ -188,8 +194,18 @@ module _ (T : Property) (j : Joins T) (serves : (c : ℕ) (client : List ℕ) (k
       k_looks T j (λ p h. is_next from number h.bridge) (λ next. If next (passing.TakesForward from number m) (Returns tt))
       (λ next. k_if T j next (passing.TakesForward from number m) (Returns tt) (takes_forward from number m) (k_returns T j tt))
 
+  answers_hello : (from : ℕ) (older : Bool) → Keeps T (bridge.AnswersHello from older)
+  answers_hello from older =
+      k_then T j (bridge.TellsTaken from) (λ _. If older (bridge.SaysHello from) (Returns tt)) (gives from (λ h. Know h.store.taken))
+      (λ _. k_if T j older (bridge.SaysHello from) (Returns tt) (says_hello from) (k_returns T j tt))
+
+  takes_hello : (from : ℕ) (g : Greeting) → Keeps T (bridge.TakesHello from g)
+  takes_hello from g =
+      k_looks T j (λ p h. is_older from g.took h.bridge) (λ older. Then (Acting (λ p h. Bridge (Greeted from g))) (λ _. bridge.AnswersHello from older))
+      (λ older. k_then T j (Acting (λ p h. Bridge (Greeted from g))) (λ _. bridge.AnswersHello from older) (k_acting T j (λ p h. Bridge (Greeted from g)) (λ p h. tt)) (λ _. answers_hello from older))
+
   takes_body : (from : ℕ) (body : FrameBody) → Keeps T (bridge.TakesBody from body)
-  takes_body from Hello = tells_taken from
+  takes_body from (Hello g) = takes_hello from g
   takes_body from (Delta s) = k_then T j (Acting (λ p h. Store (Merged s))) (λ _. bridge.TellsTaken from) (k_acting T j (λ p h. Store (Merged s)) (λ p h. tt)) (λ _. tells_taken from)
   takes_body from (Know dots) = k_acting T j (λ p h. Bridge (Believed from dots)) (λ p h. tt)
   takes_body from (Forward number m) =

@@ -1,23 +1,24 @@
 -- What holds of frames that come and go, by what holds of their parts.
-use Rattle.std.proofs.Common.{ℕ, List, Option, Some, None}
+use Rattle.std.proofs.Common.{ℕ, Bool, List, Option, Some, None}
 use Rattle.bridge_deltas.specs.Lane.{first_frames}
 use Rattle.bridge_frames.specs.declared.body.FrameBody.{FrameBody}
 use Rattle.bridge_frames.specs.declared.body.FrameBody.TheVariants.{Hello, Delta, Know, Forward as Carried, Got}
 use Rattle.bridge_frames.specs.declared.forward.Forward.{Forward}
 use Rattle.bridge_frames.specs.declared.frame.BridgeFrame.{BridgeFrame}
+use Rattle.bridge_frames.specs.declared.greeting.Greeting.{Greeting}
 use Rattle.bridge_frames.specs.Frames.{frame_in}
 use Rattle.causal_context.specs.Dots.{Dots}
 use Rattle.bridge_routes.specs.declared.plain.PlainCopy.{PlainCopy as Copy}
-use Rattle.node_bridge.specs.View.{is_next, lane_to}
+use Rattle.node_bridge.specs.View.{greeting_for, is_next, is_older, lane_to}
 use Rattle.replica_store.specs.States.{State}
 use Rattle.node_work.specs.declared.counts.Missed.TheVariants.{BadFrame, FrameTooLarge}
 use Rattle.node_work.specs.Acts.{Store, Bridge, Merged}
 use Rattle.node_work.specs.Calling.{Queues}
 use Rattle.node_work.specs.Doings.{GivesBody, GivesFrame, Misses, is_small}
 use Rattle.node_work.specs.Frames.{is_for_node, is_other}
-use Rattle.node_work.specs.Held.Bridge.{Took, Got as GotBy, Believed, Gave}
+use Rattle.node_work.specs.Held.Bridge.{Took, Got as GotBy, Believed, Gave, Greeted, Cleared}
 use Rattle.node_work.specs.View.{HeldView}
-use Rattle.node_work.specs.Working.{Doing, Returns, Acting, If, Each}
+use Rattle.node_work.specs.Working.{Doing, Returns, Acting, If, Each, Then}
 use Rattle.node_clients.specs.Passing as passing
 use Rattle.broker_node.specs.Bridge as bridge
 use Rattle.law_steps.proofs.Below.{Low, each, queues_all}
@@ -27,6 +28,8 @@ pub record Mid (K : (A : Type 0) → (Option A → Doing) → Type 0) : Type 0 w
   pub took : (from number : ℕ) (m : Forward) (copies : List Copy) (lost : ℕ) → K (Unit {0}) (Acting (λ p h. Bridge (Took from number m copies lost)))
   pub merged : (s : State) → K (Unit {0}) (Acting (λ p h. Store (Merged s)))
   pub believed : (from : ℕ) (dots : Dots) → K (Unit {0}) (Acting (λ p h. Bridge (Believed from dots)))
+  pub greeted : (from : ℕ) (g : Greeting) → K (Unit {0}) (Acting (λ p h. Bridge (Greeted from g)))
+  pub cleared : (peer : ℕ) → K (Unit {0}) (Acting (λ p h. Bridge (Cleared peer)))
   pub got : (from number : ℕ) → K (Unit {0}) (Acting (λ p h. Bridge (GotBy from number)))
   pub bad : K (Unit {0}) (Misses BadFrame)
 
@@ -40,29 +43,46 @@ module _ (K : (A : Type 0) → (Option A → Doing) → Type 0) (w : Low K) (b :
   gives : (peer : ℕ) (body : HeldView → FrameBody) → Does (GivesBody peer body)
   gives peer body = w.looks (λ p h. record { from = p.id; to = peer; body = body h }) GivesFrame gives_frame
 
+  says_hello : (peer : ℕ) → Does (bridge.SaysHello peer)
+  says_hello peer = gives peer (λ h. Hello (greeting_for peer h.bridge h.store))
+
   pub greets : (peer : ℕ) → Does (bridge.Greets peer)
   greets peer =
-      w.looks (λ p h. is_other p peer) (λ other. If other (GivesBody peer (λ h. Hello)) (Returns tt))
-      (λ other. w.by_test other (GivesBody peer (λ h. Hello)) (Returns tt) (gives peer (λ h. Hello)) (w.returns tt))
+      w.looks (λ p h. is_other p peer) (λ other. If other (bridge.SaysHello peer) (Returns tt)) (λ other. w.by_test other (bridge.SaysHello peer) (Returns tt) (says_hello peer) (w.returns tt))
 
   gives_state : (peer : ℕ) (s : Option State) → Does (bridge.GivesState peer s)
   gives_state peer None = w.returns tt
   gives_state peer (Some s) = gives peer (λ h. Delta s)
 
+  ships_what_waits : (peer : ℕ) → Does (bridge.ShipsWhatWaits peer)
+  ships_what_waits peer =
+      w.join (bridge.ShipsState peer) (λ _. bridge.ShipsMessages peer) (w.finds (bridge.AreShipped peer) (bridge.GivesState peer) (gives_state peer))
+      (λ _. w.looks (λ p h. first_frames p.id peer (lane_to h.bridge peer)) (Each GivesFrame) (λ fs. each K w GivesFrame fs gives_frame))
+
+  ships_to : (peer : ℕ) → Does (bridge.ShipsTo peer)
+  ships_to peer = w.join (Acting (λ p h. Bridge (Cleared peer))) (λ _. bridge.ShipsWhatWaits peer) (b.cleared peer) (λ _. ships_what_waits peer)
+
   pub ships : (peer : ℕ) → Does (bridge.Ships peer)
   ships peer =
-      w.looks (λ p h. is_other p peer) (λ other. If other (bridge.ShipsTo peer) (Returns tt))
-      (λ other. w.by_test other (bridge.ShipsTo peer) (Returns tt)
-      (w.join (bridge.ShipsState peer) (λ _. bridge.ShipsMessages peer) (w.finds (bridge.AreShipped peer) (bridge.GivesState peer) (gives_state peer))
-      (λ _. w.looks (λ p h. first_frames p.id peer (lane_to h.bridge peer)) (Each GivesFrame) (λ fs. each K w GivesFrame fs gives_frame))) (w.returns tt))
+      w.looks (λ p h. is_other p peer) (λ other. If other (bridge.ShipsTo peer) (Returns tt)) (λ other. w.by_test other (bridge.ShipsTo peer) (Returns tt) (ships_to peer) (w.returns tt))
 
   takes_forward : (from number : ℕ) (m : Forward) → Does (passing.TakesForward from number m)
   takes_forward from number m =
       w.finds (passing.IsHandedOver m) (passing.TakesCopies from number m)
       (λ x. w.join (Acting (λ p h. Bridge (Took from number m x.0 x.1))) (λ _. Queues x.0) (b.took from number m x.0 x.1) (λ _. queues_all K w x.0))
 
+  answers_hello : (from : ℕ) (older : Bool) → Does (bridge.AnswersHello from older)
+  answers_hello from older =
+      w.join (bridge.TellsTaken from) (λ _. If older (bridge.SaysHello from) (Returns tt)) (gives from (λ h. Know h.store.taken))
+      (λ _. w.by_test older (bridge.SaysHello from) (Returns tt) (says_hello from) (w.returns tt))
+
+  takes_hello : (from : ℕ) (g : Greeting) → Does (bridge.TakesHello from g)
+  takes_hello from g =
+      w.looks (λ p h. is_older from g.took h.bridge) (λ older. Then (Acting (λ p h. Bridge (Greeted from g))) (λ _. bridge.AnswersHello from older))
+      (λ older. w.join (Acting (λ p h. Bridge (Greeted from g))) (λ _. bridge.AnswersHello from older) (b.greeted from g) (λ _. answers_hello from older))
+
   takes_body : (from : ℕ) (body : FrameBody) → Does (bridge.TakesBody from body)
-  takes_body from Hello = gives from (λ h. Know h.store.taken)
+  takes_body from (Hello g) = takes_hello from g
   takes_body from (Delta s) = w.join (Acting (λ p h. Store (Merged s))) (λ _. bridge.TellsTaken from) (b.merged s) (λ _. gives from (λ h. Know h.store.taken))
   takes_body from (Know dots) = b.believed from dots
   takes_body from (Carried number m) =

@@ -1,19 +1,21 @@
 -- Where something comes of other nodes, nothing else is done.
-use Rattle.std.proofs.Common.{◌≡◌, inl, inr, ℕ, Bool, true, false, cond, List, [], ◌∷◌, ◌++◌, Option, Some, None, refl, sym, ap, ◌∙◌, subst}
+use Rattle.std.proofs.Common.{◌≡◌, inl, inr, ℕ, Bool, true, false, cond, List, [], ◌∷◌, ◌++◌, map as map_list, Option, Some, None, refl, sym, ap, ◌∙◌, subst}
 use Rattle.bridge_deltas.specs.Lane.{first_frames}
 use Rattle.bridge_frames.specs.declared.body.FrameBody.{FrameBody}
 use Rattle.bridge_frames.specs.declared.body.FrameBody.TheVariants.{Hello, Delta, Know, Forward, Got}
 use Rattle.bridge_frames.specs.declared.forward.Forward.{Forward as Message}
 use Rattle.bridge_frames.specs.declared.frame.BridgeFrame.{BridgeFrame}
+use Rattle.bridge_frames.specs.declared.greeting.Greeting.{Greeting}
 use Rattle.bridge_routes.specs.declared.plain.PlainCopy.{PlainCopy as Copy}
-use Rattle.node_bridge.specs.View.{BridgeView, is_next, lane_to}
+use Rattle.node_bridge.specs.View.{BridgeView, IsToShip, greeting_for, is_next, is_older, lane_to}
+use Rattle.node_bridge.proofs.Shipping.{to_ship_same}
 use Rattle.replica_store.specs.States.{State}
 use Rattle.node_work.specs.declared.counts.Missed.TheVariants.{BadFrame, FrameTooLarge}
 use Rattle.node_work.specs.Acts.{Act, Bridge, Runs, next}
 use Rattle.node_work.specs.Doings.{GivesBody, GivesFrame, Misses, is_small}
 use Rattle.node_work.specs.Frames.{is_for_node, is_other}
 use Rattle.node_work.specs.Handed.{IsHanded, found}
-use Rattle.node_work.specs.Held.Bridge.{Took, Believed, Gave, Left_out, Got as GotBy}
+use Rattle.node_work.specs.Held.Bridge.{Took, Believed, Greeted, Cleared, Gave, Left_out, Got as GotBy}
 use Rattle.node_work.specs.Passing.{seated}
 use Rattle.node_work.specs.View.{Place, HeldView}
 use Rattle.node_work.specs.Working.{Returns, Acting, If, Each}
@@ -23,7 +25,7 @@ use Rattle.law_runs.specs.StepPublishing.{CopiesAreQueued}
 use Rattle.law_runs.proofs.Keeping.{none_some}
 use Rattle.law_runs.proofs.Passing.{HaveAll, each_queued, have_both, have_seated}
 use Rattle.law_runs.proofs.Splits.{left_by}
-use Rattle.law_steps.specs.Frames.{deltas_to, frame_to}
+use Rattle.law_steps.specs.Frames.{again_to, deltas_to, frame_to}
 use Rattle.law_steps.proofs.Giving.{gives_one}
 use Rattle.law_steps.specs.Bridging.{FrameAlone, GreetsAlone, HearsAlone, IsSentTo, ShipsAlone, TakesOfLane, all_out, gives_out}
 
@@ -45,24 +47,34 @@ out_both [] gs = refl
 out_both (f ∷ fs) gs = ap (λ zs. gives_out f ∷ zs) (out_both fs gs)
 
 -- ---- of its own accord
-greeted_if : (other : Bool) (peer : ℕ) (x : Unit {0}) (p : Place) (h : HeldView) (acts : List Act) → If other (GivesBody peer (λ h. Hello)) (Returns tt) (Some x) p h acts → acts ≡ cond other (all_out (frame_to p peer Hello ∷ [])) []
-greeted_if true peer x p h acts d = gave (frame_to p peer Hello) x p h acts d
+greeted_if : (other : Bool) (peer : ℕ) (x : Unit {0}) (p : Place) (h : HeldView) (acts : List Act) → If other (bridge.SaysHello peer) (Returns tt) (Some x) p h acts
+    → acts ≡ cond other (all_out (frame_to p peer (Hello (greeting_for peer h.bridge h.store)) ∷ [])) []
+greeted_if true peer x p h acts d = gave (frame_to p peer (Hello (greeting_for peer h.bridge h.store))) x p h acts d
 greeted_if false peer x p h acts d = d.1
 
-pub greeted : (peer : ℕ) (x : Unit {0}) (p : Place) (h : HeldView) (acts : List Act) → bridge.Greets peer (Some x) p h acts → GreetsAlone p peer acts
+pub greeted : (peer : ℕ) (x : Unit {0}) (p : Place) (h : HeldView) (acts : List Act) → bridge.Greets peer (Some x) p h acts → GreetsAlone p h peer acts
 greeted peer x p h acts d = greeted_if (is_other p peer) peer x p h acts d
 
 state_out : (s : Option State) (peer : ℕ) (x : Unit {0}) (p : Place) (h mid : HeldView) (acts : List Act) → bridge.GivesState peer s (Some x) p h acts → Runs p h acts mid → (acts ≡ all_out (deltas_to p peer s)) × (mid.bridge ≡ h.bridge)
 state_out None peer x p h mid acts d runs = (d.1, ap (λ (v : HeldView). v.bridge) (subst (λ zs. Runs p h zs mid) d.1 runs))
 state_out (Some s) peer x p h mid acts d runs = (gave (frame_to p peer (Delta s)) x p h acts d, (gives_one (frame_to p peer (Delta s)) x p h mid acts d runs).bridge)
 
-shipped_if : (other : Bool) (peer : ℕ) (x : Unit {0}) (p : Place) (h : HeldView) (acts : List Act) → If other (bridge.ShipsTo peer) (Returns tt) (Some x) p h acts → cond other (IsSentTo p h peer acts) (acts ≡ [])
-shipped_if true peer x p h acts (inl d) = none_some (sym d.0)
-shipped_if true peer x p h acts (inr (y, own, mid, rest, (s, to_ship, one), ran, more, is)) =
+what_waits : (peer : ℕ) (x : Unit {0}) (p : Place) (h : HeldView) (acts : List Act) → bridge.ShipsWhatWaits peer (Some x) p h acts
+    → (s : Option State) × IsToShip peer h.bridge h.store s × (acts ≡ all_out (deltas_to p peer s ++ first_frames p.id peer (lane_to h.bridge peer)))
+what_waits peer x p h acts (inl d) = none_some (sym d.0)
+what_waits peer x p h acts (inr (y, own, mid, rest, (s, to_ship, one), ran, more, is)) =
     let first = state_out s peer y p h mid own one ran in
     let frames : BridgeView → List BridgeFrame = λ b. first_frames p.id peer (lane_to b peer) in
     let second : rest ≡ all_out (frames mid.bridge) = each_out (frames mid.bridge) x p mid rest more in
     (s, to_ship, is ∙ (λ i. first.0 i ++ second i) ∙ ap (λ (b : BridgeView). all_out (deltas_to p peer s) ++ all_out (frames b)) first.1 ∙ out_both (deltas_to p peer s) (frames h.bridge))
+
+shipped_if : (other : Bool) (peer : ℕ) (x : Unit {0}) (p : Place) (h : HeldView) (acts : List Act) → If other (bridge.ShipsTo peer) (Returns tt) (Some x) p h acts → cond other (IsSentTo p h peer acts) (acts ≡ [])
+shipped_if true peer x p h acts (inl d) = none_some (sym d.0)
+shipped_if true peer x p h acts (inr (y, own, mid, rest, one, ran, more, is)) =
+    let a = Bridge (Cleared peer) in
+    let left : mid ≡ next h a = left_by p h mid a own one.1 ran in
+    let all = what_waits peer x p (next h a) rest (subst (λ v. bridge.ShipsWhatWaits peer (Some x) p v rest) left more) in
+    (all.0, to_ship_same peer h.bridge h.store all.0 all.1, is ∙ (λ i. one.1 i ++ all.2 i))
 shipped_if false peer x p h acts d = d.1
 
 pub shipped : (peer : ℕ) (x : Unit {0}) (p : Place) (h : HeldView) (acts : List Act) → bridge.Ships peer (Some x) p h acts → ShipsAlone p h peer acts
@@ -92,8 +104,24 @@ taken_next true from number m x p h acts (made, handed, (inr (y, own, mid, rest,
 taken_next false from number m x p h acts d = d.1
 
 -- ---- a frame that comes
+said_again : (older : Bool) (from : ℕ) (x : Unit {0}) (p : Place) (h : HeldView) (acts : List Act) → If older (bridge.SaysHello from) (Returns tt) (Some x) p h acts → acts ≡ all_out (map_list (frame_to p from) (again_to older h from))
+said_again true from x p h acts d = gave (frame_to p from (Hello (greeting_for from h.bridge h.store))) x p h acts d
+said_again false from x p h acts d = d.1
+
+answered_hello : (older : Bool) (from : ℕ) (x : Unit {0}) (p : Place) (h : HeldView) (acts : List Act) → bridge.AnswersHello from older (Some x) p h acts
+    → acts ≡ all_out (map_list (frame_to p from) (Know h.store.taken ∷ again_to older h from))
+answered_hello older from x p h acts (inl d) = none_some (sym d.0)
+answered_hello older from x p h acts (inr (y, own, mid, rest, one, ran, more, is)) =
+    let f = frame_to p from (Know h.store.taken) in
+    let g = gives_one f y p h mid own one ran in
+    let again : rest ≡ all_out (map_list (frame_to p from) (again_to older h from)) =
+    said_again older from x p mid rest more ∙ (λ i. all_out (map_list (frame_to p from) (cond older (Hello (greeting_for from (g.bridge i) (g.store i)) ∷ []) []))) in
+    is ∙ (λ i. gave f y p h own one i ++ again i)
+
 heard : (body : FrameBody) (from : ℕ) (x : Unit {0}) (p : Place) (h : HeldView) (acts : List Act) → bridge.TakesBody from body (Some x) p h acts → HearsAlone p h from body acts
-heard Hello from x p h acts d = record { own = []; brings = refl; left = h; leaves = refl; is = gave (frame_to p from (Know h.store.taken)) x p h acts d }
+heard (Hello g) from x p h acts (inl d) = none_some (sym d.0)
+heard (Hello g) from x p h acts (inr (y, own, mid, rest, one, ran, more, is)) =
+    record { own = own; brings = one.1; left = mid; leaves = ran; is = is ∙ ap (λ zs. own ++ zs) (answered_hello (is_older from g.took h.bridge) from x p mid rest more) }
 heard (Delta s) from x p h acts (inl d) = none_some (sym d.0)
 heard (Delta s) from x p h acts (inr (y, own, mid, rest, one, ran, more, is)) =
     record { own = own; brings = one.1; left = mid; leaves = ran; is = is ∙ ap (λ zs. own ++ zs) (gave (frame_to p from (Know mid.store.taken)) x p mid rest more) }

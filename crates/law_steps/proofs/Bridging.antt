@@ -51,7 +51,7 @@ module _ (p : Place) (h m n : HeldView) (xs ys : List Act) (sound : IsTable h.ho
   next_fixed false from number f x y = x ∙ sym y
 
   brought_fixed : (body : FrameBody) (from : ℕ) → IsBrought h from body xs → IsBrought h from body ys → xs ≡ ys
-  brought_fixed Hello from x y = x ∙ sym y
+  brought_fixed (Hello g) from x y = x ∙ sym y
   brought_fixed (Delta t) from x y = x ∙ sym y
   brought_fixed (Know dots) from x y = x ∙ sym y
   brought_fixed (Forward number f) from x y = next_fixed (is_next from number h.bridge) from number f x y
@@ -59,9 +59,9 @@ module _ (p : Place) (h m n : HeldView) (xs ys : List Act) (sound : IsTable h.ho
 
 hears_fixed : (p : Place) (h last last' : HeldView) (from : ℕ) (body : FrameBody) (xs ys : List Act) → IsTable h.homes → Runs p h xs last → Runs p h ys last' → HearsAlone p h from body xs → HearsAlone p h from body ys → xs ≡ ys
 hears_fixed p h last last' from body xs ys sound r s x y =
-    two_parts p h last last' xs ys x.own (answered p x.left from body) y.own (answered p y.left from body) x.is y.is r s
+    two_parts p h last last' xs ys x.own (answered p h x.left from body) y.own (answered p h y.left from body) x.is y.is r s
     (λ m n ra rb. brought_fixed p h m n x.own y.own sound ra rb body from x.brings y.brings)
-    (λ mid ra rb rc rd. ap (λ (v : HeldView). answered p v from body) (runs_determined p x.own h x.left mid x.leaves ra ∙ sym (runs_determined p y.own h y.left mid y.leaves rb)))
+    (λ mid ra rb rc rd. ap (λ (v : HeldView). answered p h v from body) (runs_determined p x.own h x.left mid x.leaves ra ∙ sym (runs_determined p y.own h y.left mid y.leaves rb)))
 
 heard_fixed : (here : Bool) (p : Place) (h last last' : HeldView) (f : BridgeFrame) (xs ys : List Act) → IsTable h.homes → Runs p h xs last → Runs p h ys last'
     → cond here (HearsAlone p h f.from f.body xs) (xs ≡ Bridge (Left_out BadFrame) ∷ []) → cond here (HearsAlone p h f.from f.body ys) (ys ≡ Bridge (Left_out BadFrame) ∷ []) → xs ≡ ys

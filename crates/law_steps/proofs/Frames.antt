@@ -4,12 +4,15 @@ use Rattle.bridge_deltas.specs.Lane.{first_frames}
 use Rattle.bridge_frames.specs.declared.body.FrameBody.{FrameBody}
 use Rattle.bridge_frames.specs.declared.body.FrameBody.TheVariants.{Hello, Delta, Know, Forward as Carried, Got}
 use Rattle.bridge_frames.specs.declared.frame.BridgeFrame.{BridgeFrame}
+use Rattle.bridge_frames.specs.declared.greeting.Greeting.{Greeting}
 use Rattle.bridge_frames.specs.Frames.{frame_in}
-use Rattle.node_bridge.specs.View.{lane_to}
+use Rattle.node_bridge.specs.View.{greeting_for, is_older, lane_to}
+use Rattle.node_bridge.proofs.Shipping.{to_ship_same}
 use Rattle.replica_store.specs.States.{State}
 use Rattle.node_work.specs.declared.counts.Missed.TheVariants.{BadFrame}
-use Rattle.node_work.specs.Acts.{Act, Runs}
+use Rattle.node_work.specs.Acts.{Act, Bridge, Runs, next}
 use Rattle.node_work.specs.Doings.{GivesBody, Misses}
+use Rattle.node_work.specs.Held.Bridge.{Cleared}
 use Rattle.node_work.specs.Frames.{is_for_node, is_other}
 use Rattle.node_work.specs.View.{Place, HeldView}
 use Rattle.node_work.specs.Working.{Returns, If}
@@ -21,8 +24,8 @@ use Rattle.broker_node.specs.declared.event.EventKind.TheVariants as kinds
 use Rattle.broker_node.specs.Bridge as bridge
 use Rattle.broker_node.specs.Turns.{AnswersEvent, Decides}
 use Rattle.law_runs.proofs.Keeping.{none_some}
-use Rattle.law_runs.proofs.Splits.{runs_split}
-use Rattle.law_steps.specs.Frames.{given_in, frames_given, frame_to, those_small, deltas_to, ShippedFrames, answer_to, answers_to, AreOfEvent, GivesFrames, FramesAreOfEvents}
+use Rattle.law_runs.proofs.Splits.{left_by, runs_split}
+use Rattle.law_steps.specs.Frames.{given_in, frames_given, frame_to, those_small, deltas_to, ShippedFrames, again_to, answer_to, answers_to, AreOfEvent, GivesFrames, FramesAreOfEvents}
 use Rattle.law_steps.proofs.Giving.{gives_one, small_both, each_given}
 use Rattle.law_steps.proofs.Silent.{answering_of, silent_before, silent_of, none_given}
 use Rattle.law_steps.proofs.TakingLaws.{takes_next, gives_none}
@@ -32,20 +35,29 @@ shipped_then : (s : Option State) (peer : ℕ) (x : Unit {0}) (p : Place) (h h' 
 shipped_then None peer x p h h' acts d runs = (ap frames_given d.1, ap (λ (v : HeldView). v.bridge) (subst (λ xs. Runs p h xs h') d.1 runs))
 shipped_then (Some s) peer x p h h' acts d runs = let g = gives_one (frame_to p peer (Delta s)) x p h h' acts d runs in (g.frames, g.bridge)
 
-ships_to : (peer : ℕ) (x : Unit {0}) (p : Place) (h : HeldView) (acts : List Act) → bridge.ShipsTo peer (Some x) p h acts → ShippedFrames p h peer (frames_given acts)
-ships_to peer x p h acts (inl d) = none_some (sym d.0)
-ships_to peer x p h acts (inr (y, own, mid, rest, (s, ships, one), runs, more, is)) =
+what_waits : (peer : ℕ) (x : Unit {0}) (p : Place) (h : HeldView) (acts : List Act) → bridge.ShipsWhatWaits peer (Some x) p h acts → ShippedFrames p h peer (frames_given acts)
+what_waits peer x p h acts (inl d) = none_some (sym d.0)
+what_waits peer x p h acts (inr (y, own, mid, rest, (s, ships, one), runs, more, is)) =
     let first = shipped_then s peer y p h mid own one runs in
     let others : frames_given rest ≡ those_small (first_frames p.id peer (lane_to h.bridge peer)) =
     each_given (first_frames p.id peer (lane_to mid.bridge peer)) x p mid rest more ∙ ap (λ b. those_small (first_frames p.id peer (lane_to b peer))) first.1 in
     (s, ships, ap frames_given is ∙ gather-append given_in own rest ∙ (λ i. first.0 i ++ others i) ∙ sym (small_both (deltas_to p peer s) (first_frames p.id peer (lane_to h.bridge peer))))
 
+ships_to : (peer : ℕ) (x : Unit {0}) (p : Place) (h : HeldView) (acts : List Act) → bridge.ShipsTo peer (Some x) p h acts → ShippedFrames p h peer (frames_given acts)
+ships_to peer x p h acts (inl d) = none_some (sym d.0)
+ships_to peer x p h acts (inr (y, own, mid, rest, one, ran, more, is)) =
+    let a = Bridge (Cleared peer) in
+    let left : mid ≡ next h a = left_by p h mid a own one.1 ran in
+    let all = what_waits peer x p (next h a) rest (subst (λ v. bridge.ShipsWhatWaits peer (Some x) p v rest) left more) in
+    (all.0, to_ship_same peer h.bridge h.store all.0 all.1, ap frames_given (is ∙ ap (λ zs. zs ++ rest) one.1) ∙ all.2)
+
 ships_by : (other : Bool) (peer : ℕ) (p : Place) (h : HeldView) (acts : List Act) → If other (bridge.ShipsTo peer) (Returns tt) (Some tt) p h acts → cond other (ShippedFrames p h peer (frames_given acts)) (frames_given acts ≡ [])
 ships_by true peer p h acts d = ships_to peer tt p h acts d
 ships_by false peer p h acts d = ap frames_given d.1
 
-greets_by : (other : Bool) (peer : ℕ) (p : Place) (h last : HeldView) (acts : List Act) → If other (GivesBody peer (λ h. Hello)) (Returns tt) (Some tt) p h acts → Runs p h acts last → frames_given acts ≡ cond other (those_small (frame_to p peer Hello ∷ [])) []
-greets_by true peer p h last acts d runs = (gives_one (frame_to p peer Hello) tt p h last acts d runs).frames
+greets_by : (other : Bool) (peer : ℕ) (p : Place) (h last : HeldView) (acts : List Act) → If other (bridge.SaysHello peer) (Returns tt) (Some tt) p h acts → Runs p h acts last
+    → frames_given acts ≡ cond other (those_small (frame_to p peer (Hello (greeting_for peer h.bridge h.store)) ∷ [])) []
+greets_by true peer p h last acts d runs = (gives_one (frame_to p peer (Hello (greeting_for peer h.bridge h.store))) tt p h last acts d runs).frames
 greets_by false peer p h last acts d runs = ap frames_given d.1
 
 -- ---- in answer to a frame
@@ -54,8 +66,30 @@ tells from x p h last acts d runs =
     let g = gives_one (frame_to p from (Know h.store.taken)) x p h last acts d runs in
     g.frames ∙ ap (λ (s : State). those_small (frame_to p from (Know s.taken) ∷ [])) (sym g.store)
 
-answers_by : (from : ℕ) (body : FrameBody) (p : Place) (h last : HeldView) (acts : List Act) → bridge.TakesBody from body (Some tt) p h acts → Runs p h acts last → frames_given acts ≡ those_small (map_list (frame_to p from) (answer_to last from body))
-answers_by from Hello p h last acts d runs = tells from tt p h last acts d runs
+-- what the node has is said once more, and nothing of it changes
+said_again : (older : Bool) (from : ℕ) (x : Unit {0}) (p : Place) (h last : HeldView) (acts : List Act) → If older (bridge.SaysHello from) (Returns tt) (Some x) p h acts → Runs p h acts last
+    → (frames_given acts ≡ those_small (map_list (frame_to p from) (again_to older last from))) × (last.store ≡ h.store)
+said_again true from x p h last acts d runs =
+    let g = gives_one (frame_to p from (Hello (greeting_for from h.bridge h.store))) x p h last acts d runs in
+    (g.frames ∙ (λ i. those_small (frame_to p from (Hello (greeting_for from (sym g.bridge i) (sym g.store i))) ∷ [])), g.store)
+said_again false from x p h last acts d runs = (ap frames_given d.1, ap (λ (v : HeldView). v.store) (subst (λ xs. Runs p h xs last) d.1 runs))
+
+answers_hello : (older : Bool) (from : ℕ) (x : Unit {0}) (p : Place) (h last : HeldView) (acts : List Act) → bridge.AnswersHello from older (Some x) p h acts → Runs p h acts last
+    → frames_given acts ≡ those_small (map_list (frame_to p from) (Know last.store.taken ∷ again_to older last from))
+answers_hello older from x p h last acts (inl d) runs = none_some (sym d.0)
+answers_hello older from x p h last acts (inr (y, own, mid, rest, one, ran, more, is)) runs =
+    let both = runs_split p own rest h last (subst (λ xs. Runs p h xs last) is runs) in
+    let same : both.0 ≡ mid = runs_determined p own h both.0 mid both.1 ran in
+    let again = said_again older from x p mid last rest more (subst (λ v. Runs p v rest last) same both.2) in
+    let first : frames_given own ≡ those_small (frame_to p from (Know last.store.taken) ∷ []) = tells from y p h mid own one ran ∙ ap (λ (s : State). those_small (frame_to p from (Know s.taken) ∷ [])) (sym again.1) in
+    ap frames_given is ∙ gather-append given_in own rest ∙ (λ i. first i ++ again.0 i) ∙ sym (small_both (frame_to p from (Know last.store.taken) ∷ []) (map_list (frame_to p from) (again_to older last from)))
+
+answers_by : (from : ℕ) (body : FrameBody) (p : Place) (h last : HeldView) (acts : List Act) → bridge.TakesBody from body (Some tt) p h acts → Runs p h acts last → frames_given acts ≡ those_small (map_list (frame_to p from) (answer_to h last from body))
+answers_by from (Hello g) p h last acts (inl d) runs = none_some (sym d.0)
+answers_by from (Hello g) p h last acts (inr (x, own, mid, rest, one, ran, more, is)) runs =
+    let both = runs_split p own rest h last (subst (λ xs. Runs p h xs last) is runs) in
+    let same : both.0 ≡ mid = runs_determined p own h both.0 mid both.1 ran in
+    ap frames_given (is ∙ ap (λ xs. xs ++ rest) one.1) ∙ answers_hello (is_older from g.took h.bridge) from tt p mid last rest more (subst (λ v. Runs p v rest last) same both.2)
 answers_by from (Delta s) p h last acts (inl d) runs = none_some (sym d.0)
 answers_by from (Delta s) p h last acts (inr (x, own, mid, rest, one, ran, more, is)) runs =
     let both = runs_split p own rest h last (subst (λ xs. Runs p h xs last) is runs) in
@@ -68,11 +102,11 @@ answers_by from (Carried number m) p h last acts d runs =
 answers_by from (Got number) p h last acts d runs = ap frames_given d.1
 
 hears_by : (here : Bool) (f : BridgeFrame) (p : Place) (h last : HeldView) (acts : List Act) → If here (bridge.TakesBody f.from f.body) (Misses BadFrame) (Some tt) p h acts → Runs p h acts last
-    → frames_given acts ≡ cond here (those_small (map_list (frame_to p f.from) (answer_to last f.from f.body))) []
+    → frames_given acts ≡ cond here (those_small (map_list (frame_to p f.from) (answer_to h last f.from f.body))) []
 hears_by true f p h last acts d runs = answers_by f.from f.body p h last acts d runs
 hears_by false f p h last acts d runs = ap frames_given d.1
 
-hears : (frame : Option BridgeFrame) (p : Place) (h last : HeldView) (acts : List Act) → bridge.HearsFrame frame (Some tt) p h acts → Runs p h acts last → frames_given acts ≡ answers_to p last frame
+hears : (frame : Option BridgeFrame) (p : Place) (h last : HeldView) (acts : List Act) → bridge.HearsFrame frame (Some tt) p h acts → Runs p h acts last → frames_given acts ≡ answers_to p h last frame
 hears None p h last acts d runs = ap frames_given d.1
 hears (Some f) p h last acts d runs = hears_by (is_for_node p f) f p h last acts d runs
 

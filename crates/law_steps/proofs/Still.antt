@@ -5,6 +5,7 @@ use Rattle.bridge_frames.specs.declared.body.FrameBody.{FrameBody}
 use Rattle.bridge_frames.specs.declared.body.FrameBody.TheVariants.{Hello, Delta, Know, Forward as Carried, Got}
 use Rattle.bridge_frames.specs.declared.forward.Forward.{Forward}
 use Rattle.bridge_frames.specs.declared.frame.BridgeFrame.{BridgeFrame}
+use Rattle.bridge_frames.specs.declared.greeting.Greeting.{Greeting}
 use Rattle.bridge_frames.specs.Frames.{frame_in}
 use Rattle.session_table.specs.Dues.{Due}
 use Rattle.bridge_routes.specs.declared.plain.PlainCopy.{PlainCopy as Copy}
@@ -22,7 +23,7 @@ use Rattle.mqtt_sessions.specs.Answers.{disconnect, fits}
 use Rattle.mqtt_sessions.specs.Reaction.{Reaction}
 use Rattle.mqtt_sessions.specs.State.{limit_in}
 use Rattle.mqtt_topics.specs.Topics.{IsFilter}
-use Rattle.node_bridge.specs.View.{is_next, lane_to}
+use Rattle.node_bridge.specs.View.{greeting_for, is_next, is_older, lane_to}
 use Rattle.replica_store.specs.Making.{subscribe_of}
 use Rattle.replica_store.specs.States.{State}
 use Rattle.law_sessions.specs.Runs.{Event, answers, closes, finishes, queues, rooms, takes, ticks}
@@ -38,7 +39,7 @@ use Rattle.node_work.specs.Acts.{Acknowledged, Act, Bridge, Connection, Made, Me
 use Rattle.node_work.specs.Calling.{Calls, Queues}
 use Rattle.node_work.specs.Doings.{Disconnects, GivesBody, GivesFrame, MakesRemove, MakesRemoveBelow, MakesSubscribe, Misses, Removes, RemovesBelow, Sends, is_small}
 use Rattle.node_work.specs.Frames.{is_for_node, is_other}
-use Rattle.node_work.specs.Held.Bridge.{Believed, Gave, Got as GotBy, Took}
+use Rattle.node_work.specs.Held.Bridge.{Believed, Gave, Got as GotBy, Took, Greeted, Cleared}
 use Rattle.node_work.specs.Held.Connections.{Closed, Roomed, client_at, first_at, is_open}
 use Rattle.node_work.specs.Held.Making.{number_at_end, removal, removal_below}
 use Rattle.node_work.specs.Held.Sessions.{Begun, Over, connection_at, end_is_due, has_session, takes_disconnect, takes_packet, will_is_due}
@@ -330,19 +331,24 @@ gives_frame f = by_test IsStill (is_small f) (Acting (λ p h. Bridge (Gave f))) 
 gives : (peer : ℕ) (body : HeldView → FrameBody) → Does (GivesBody peer body)
 gives peer body = looks IsStill (λ p h. record { from = p.id; to = peer; body = body h }) GivesFrame gives_frame
 
+says_hello : (peer : ℕ) → Does (bridge.SaysHello peer)
+says_hello peer = gives peer (λ h. Hello (greeting_for peer h.bridge h.store))
+
 pub greets : (peer : ℕ) → Does (bridge.Greets peer)
 greets peer =
-    looks IsStill (λ p h. is_other p peer) (λ other. If other (GivesBody peer (λ h. Hello)) (Returns tt))
-    (λ other. by_test IsStill other (GivesBody peer (λ h. Hello)) (Returns tt) (gives peer (λ h. Hello)) (returns IsStill tt))
+    looks IsStill (λ p h. is_other p peer) (λ other. If other (bridge.SaysHello peer) (Returns tt)) (λ other. by_test IsStill other (bridge.SaysHello peer) (Returns tt) (says_hello peer) (returns IsStill tt))
 
 gives_state : (peer : ℕ) (s : Option State) → Does (bridge.GivesState peer s)
 gives_state peer None = returns IsStill tt
 gives_state peer (Some s) = gives peer (λ h. Delta s)
 
-ships_to : (peer : ℕ) → Does (bridge.ShipsTo peer)
-ships_to peer =
+ships_what_waits : (peer : ℕ) → Does (bridge.ShipsWhatWaits peer)
+ships_what_waits peer =
     join IsStill (bridge.ShipsState peer) (λ _. bridge.ShipsMessages peer) (finds IsStill (bridge.AreShipped peer) (bridge.GivesState peer) (gives_state peer))
     (λ _. looks IsStill (λ p h. first_frames p.id peer (lane_to h.bridge peer)) (Each GivesFrame) (λ fs. each IsStill GivesFrame fs gives_frame))
+
+ships_to : (peer : ℕ) → Does (bridge.ShipsTo peer)
+ships_to peer = join IsStill (Acting (λ p h. Bridge (Cleared peer))) (λ _. bridge.ShipsWhatWaits peer) (acting IsStill (λ p h. Bridge (Cleared peer)) (λ p h. tt)) (λ _. ships_what_waits peer)
 
 pub ships : (peer : ℕ) → Does (bridge.Ships peer)
 ships peer =
@@ -357,8 +363,18 @@ takes_next from number m =
     looks IsStill (λ p h. is_next from number h.bridge) (λ next. If next (passing.TakesForward from number m) (Returns tt))
     (λ next. by_test IsStill next (passing.TakesForward from number m) (Returns tt) (finds IsStill (passing.IsHandedOver m) (passing.TakesCopies from number m) (takes_copies from number m)) (returns IsStill tt))
 
+answers_hello : (from : ℕ) (older : Bool) → Does (bridge.AnswersHello from older)
+answers_hello from older =
+    join IsStill (bridge.TellsTaken from) (λ _. If older (bridge.SaysHello from) (Returns tt)) (gives from (λ h. Know h.store.taken))
+    (λ _. by_test IsStill older (bridge.SaysHello from) (Returns tt) (says_hello from) (returns IsStill tt))
+
+takes_hello : (from : ℕ) (g : Greeting) → Does (bridge.TakesHello from g)
+takes_hello from g =
+    looks IsStill (λ p h. is_older from g.took h.bridge) (λ older. Then (Acting (λ p h. Bridge (Greeted from g))) (λ _. bridge.AnswersHello from older))
+    (λ older. join IsStill (Acting (λ p h. Bridge (Greeted from g))) (λ _. bridge.AnswersHello from older) (acting IsStill (λ p h. Bridge (Greeted from g)) (λ p h. tt)) (λ _. answers_hello from older))
+
 takes_body : (from : ℕ) (body : FrameBody) → Does (bridge.TakesBody from body)
-takes_body from Hello = gives from (λ h. Know h.store.taken)
+takes_body from (Hello g) = takes_hello from g
 takes_body from (Delta s) = join IsStill (Acting (λ p h. Store (Merged s))) (λ _. bridge.TellsTaken from) (acting IsStill (λ p h. Store (Merged s)) (λ p h. tt)) (λ _. gives from (λ h. Know h.store.taken))
 takes_body from (Know dots) = acting IsStill (λ p h. Bridge (Believed from dots)) (λ p h. tt)
 takes_body from (Carried number m) =

@@ -15,9 +15,10 @@ use Rattle.bridge_frames.specs.declared.body.FrameBody.{FrameBody}
 use Rattle.bridge_frames.specs.declared.body.FrameBody.TheVariants.{Hello, Delta, Know, Forward as Carried, Got}
 use Rattle.bridge_frames.specs.declared.forward.Forward.{Forward}
 use Rattle.bridge_frames.specs.declared.frame.BridgeFrame.{BridgeFrame}
+use Rattle.bridge_frames.specs.declared.greeting.Greeting.{Greeting}
 use Rattle.bridge_frames.specs.Frames.{frame_in}
 use Rattle.home_table.specs.Table.{Table}
-use Rattle.node_bridge.specs.View.{is_next, lane_to}
+use Rattle.node_bridge.specs.View.{greeting_for, is_next, is_older, lane_to}
 use Rattle.replica_store.specs.States.{State}
 use Rattle.session_table.specs.Dues.{Due}
 use Rattle.law_sessions.specs.Runs.{Event, connects, rooms, closes, ticks}
@@ -30,7 +31,7 @@ use Rattle.node_work.specs.declared.outcome.Output.TheVariants.{Send, Close}
 use Rattle.node_work.specs.Acts.{Act, StoreAct, MomentTaken, Began, Moved, Store, Made, Merged, Connection, Session, Bridge, Out, Named, Acknowledged, Passed, Dropped, Runs, next}
 use Rattle.node_work.specs.Calling.{Calls}
 use Rattle.node_work.specs.Doings.{Sends, Disconnects, Redirects, Misses, MakesRemove, OpensConnection, Removes, GivesBody, GivesFrame, is_small}
-use Rattle.node_work.specs.Held.Bridge.{BridgeAct, Put, Took, Got as GotBy, Believed, Gave, Left_out}
+use Rattle.node_work.specs.Held.Bridge.{BridgeAct, Put, Took, Got as GotBy, Believed, Gave, Left_out, Greeted, Cleared}
 use Rattle.node_work.specs.Held.Connections.{Opened, Accepted, Closed as Shut, Fed, Roomed, is_open, client_at, first_at, room_at}
 use Rattle.node_work.specs.Held.Feeding.{cut_of}
 use Rattle.node_work.specs.Held.Making.{number_at_end, removal}
@@ -388,18 +389,24 @@ module _ (T : Property) (c : Closed T) (due_one : (p : Place) (h : HeldView) (a 
     gives : (peer : ℕ) (body : HeldView → FrameBody) → Keeps T (GivesBody peer body)
     gives peer body = j_looks T c (λ p h. record { from = p.id; to = peer; body = body h }) GivesFrame gives_frame
 
+    says_hello : (peer : ℕ) → Keeps T (bridge.SaysHello peer)
+    says_hello peer = gives peer (λ h. Hello (greeting_for peer h.bridge h.store))
+
     greets : (peer : ℕ) → Keeps T (bridge.Greets peer)
     greets peer =
-        j_looks T c (λ p h. is_other p peer) (λ other. If other (GivesBody peer (λ h. Hello)) (Returns tt)) (λ other. j_if T c other (GivesBody peer (λ h. Hello)) (Returns tt) (gives peer (λ h. Hello)) (j_returns T c tt))
+        j_looks T c (λ p h. is_other p peer) (λ other. If other (bridge.SaysHello peer) (Returns tt)) (λ other. j_if T c other (bridge.SaysHello peer) (Returns tt) (says_hello peer) (j_returns T c tt))
 
     gives_state : (peer : ℕ) (s : Option State) → Keeps T (bridge.GivesState peer s)
     gives_state peer None = j_returns T c tt
     gives_state peer (Some s) = gives peer (λ h. Delta s)
 
-    ships_to : (peer : ℕ) → Keeps T (bridge.ShipsTo peer)
-    ships_to peer =
+    ships_what_waits : (peer : ℕ) → Keeps T (bridge.ShipsWhatWaits peer)
+    ships_what_waits peer =
         j_then T c (bridge.ShipsState peer) (λ _. bridge.ShipsMessages peer) (j_finds T c (bridge.AreShipped peer) (bridge.GivesState peer) (gives_state peer))
         (λ _. j_looks T c (λ p h. first_frames p.id peer (lane_to h.bridge peer)) (Each GivesFrame) (λ fs. each GivesFrame fs gives_frame))
+
+    ships_to : (peer : ℕ) → Keeps T (bridge.ShipsTo peer)
+    ships_to peer = j_then T c (Acting (λ p h. Bridge (Cleared peer))) (λ _. bridge.ShipsWhatWaits peer) (acting (λ p h. Bridge (Cleared peer)) (λ p h. tt)) (λ _. ships_what_waits peer)
 
     ships : (peer : ℕ) → Keeps T (bridge.Ships peer)
     ships peer = j_looks T c (λ p h. is_other p peer) (λ other. If other (bridge.ShipsTo peer) (Returns tt)) (λ other. j_if T c other (bridge.ShipsTo peer) (Returns tt) (ships_to peer) (j_returns T c tt))
@@ -409,8 +416,18 @@ module _ (T : Property) (c : Closed T) (due_one : (p : Place) (h : HeldView) (a 
         j_looks T c (λ p h. is_next from number h.bridge) (λ next. If next (passing.TakesForward from number m) (Returns tt))
         (λ next. j_if T c next (passing.TakesForward from number m) (Returns tt) (takes_forward from number m) (j_returns T c tt))
 
+    answers_hello : (from : ℕ) (older : Bool) → Keeps T (bridge.AnswersHello from older)
+    answers_hello from older =
+        j_then T c (bridge.TellsTaken from) (λ _. If older (bridge.SaysHello from) (Returns tt)) (gives from (λ h. Know h.store.taken))
+        (λ _. j_if T c older (bridge.SaysHello from) (Returns tt) (says_hello from) (j_returns T c tt))
+
+    takes_hello : (from : ℕ) (g : Greeting) → Keeps T (bridge.TakesHello from g)
+    takes_hello from g =
+        j_looks T c (λ p h. is_older from g.took h.bridge) (λ older. Then (Acting (λ p h. Bridge (Greeted from g))) (λ _. bridge.AnswersHello from older))
+        (λ older. j_then T c (Acting (λ p h. Bridge (Greeted from g))) (λ _. bridge.AnswersHello from older) (acting (λ p h. Bridge (Greeted from g)) (λ p h. tt)) (λ _. answers_hello from older))
+
     takes_body : (from : ℕ) (body : FrameBody) → Keeps T (bridge.TakesBody from body)
-    takes_body from Hello = gives from (λ h. Know h.store.taken)
+    takes_body from (Hello g) = takes_hello from g
     takes_body from (Delta s) =
         j_then T c (Acting (λ p h. Store (Merged s))) (λ _. bridge.TellsTaken from) (acting (λ p h. Store (Merged s)) (λ p h. tt)) (λ _. gives from (λ h. Know h.store.taken))
     takes_body from (Know dots) = acting (λ p h. Bridge (Believed from dots)) (λ p h. tt)

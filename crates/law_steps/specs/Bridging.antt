@@ -6,13 +6,13 @@ use Rattle.bridge_frames.specs.declared.body.FrameBody.TheVariants.{Hello, Delta
 use Rattle.bridge_frames.specs.declared.forward.Forward.{Forward as Message}
 use Rattle.bridge_frames.specs.declared.frame.BridgeFrame.{BridgeFrame}
 use Rattle.bridge_routes.specs.declared.plain.PlainCopy.{PlainCopy as Copy}
-use Rattle.node_bridge.specs.View.{IsToShip, is_next, lane_to}
+use Rattle.node_bridge.specs.View.{IsToShip, greeting_for, is_next, lane_to}
 use Rattle.replica_store.specs.States.{State}
 use Rattle.node_work.specs.declared.counts.Missed.TheVariants.{BadFrame, FrameTooLarge}
 use Rattle.node_work.specs.Acts.{Act, Store, Merged, Bridge, Runs}
 use Rattle.node_work.specs.Doings.{is_small}
 use Rattle.node_work.specs.Frames.{is_for_node, is_other}
-use Rattle.node_work.specs.Held.Bridge.{Took, Believed, Gave, Left_out, Got as GotBy}
+use Rattle.node_work.specs.Held.Bridge.{Took, Believed, Greeted, Cleared, Gave, Left_out, Got as GotBy}
 use Rattle.node_work.specs.View.{Place, HeldView}
 use Rattle.law_runs.specs.StepPublishing.{CopiesAreQueued}
 use Rattle.law_steps.specs.Frames.{answer_to, deltas_to, frame_to}
@@ -25,13 +25,13 @@ abbrev pub all_out : List BridgeFrame → List Act
 all_out fs = map_list gives_out fs
 
 -- ---- of its own accord
--- a link to another node of the cluster begins with Hello
-abbrev pub GreetsAlone : Place → ℕ → List Act → Type 0
-GreetsAlone p peer acts = acts ≡ cond (is_other p peer) (all_out (frame_to p peer Hello ∷ [])) []
+-- a link to another node of the cluster begins with Hello, which says what this node has
+abbrev pub GreetsAlone : Place → HeldView → ℕ → List Act → Type 0
+GreetsAlone p h peer acts = acts ≡ cond (is_other p peer) (all_out (frame_to p peer (Hello (greeting_for peer h.bridge h.store)) ∷ [])) []
 
--- a node is sent what it may lack of the state, unless it is known to have taken all; and then each of the first 64 messages that wait for it
+-- a node may have from then on what was put in for it since this one was opened; and it is sent what it may lack of the state, unless it is known to have taken all; and then each of the first 64 messages that wait for it
 abbrev pub IsSentTo : Place → HeldView → ℕ → List Act → Type 0
-IsSentTo p h peer acts = (s : Option State) × IsToShip peer h.bridge h.store s × (acts ≡ all_out (deltas_to p peer s ++ first_frames p.id peer (lane_to h.bridge peer)))
+IsSentTo p h peer acts = (s : Option State) × IsToShip peer h.bridge h.store s × (acts ≡ Bridge (Cleared peer) ∷ all_out (deltas_to p peer s ++ first_frames p.id peer (lane_to h.bridge peer)))
 
 -- another node of the cluster is
 abbrev pub ShipsAlone : Place → HeldView → ℕ → List Act → Type 0
@@ -46,26 +46,27 @@ pub record TakesOfLane (h : HeldView) (from number : ℕ) (m : Message) (acts : 
   pub is : acts ≡ Bridge (Took from number m copies lost) ∷ calls
   pub queued : CopiesAreQueued h.at copies calls
 
--- what a frame brings: a Hello nothing; a Delta a state, which is merged; a Know dots that its sender has taken; a Forward a message, where its number
+-- what a frame brings: a Hello what its sender has; a Delta a state, which is merged; a Know dots that its sender has taken; a Forward a message, where its number
 -- is the next one of the lane; a Got the number of the last message that its sender has taken
 abbrev pub IsBrought : HeldView → ℕ → FrameBody → List Act → Type 0
-IsBrought h from Hello acts = acts ≡ []
+IsBrought h from (Hello g) acts = acts ≡ Bridge (Greeted from g) ∷ []
 IsBrought h from (Delta s) acts = acts ≡ Store (Merged s) ∷ []
 IsBrought h from (Know dots) acts = acts ≡ Bridge (Believed from dots) ∷ []
 IsBrought h from (Forward number m) acts = cond (is_next from number h.bridge) (TakesOfLane h from number m acts) (acts ≡ [])
 IsBrought h from (Got number) acts = acts ≡ Bridge (GotBy from number) ∷ []
 
--- by what the node holds then it is answered: a Hello and a Delta by the dots that were taken, a Forward by the number of the last message that was
+-- by what the node held before and holds then it is answered: a Hello and a Delta by the dots that were taken, a Hello also by what the node
+-- has, where its rows are older than what the sender took, a Forward by the number of the last message that was
 -- taken of the lane, another frame by nothing
-abbrev pub answered : Place → HeldView → ℕ → FrameBody → List Act
-answered p h from body = all_out (map_list (frame_to p from) (answer_to h from body))
+abbrev pub answered : Place → (before after : HeldView) → ℕ → FrameBody → List Act
+answered p b h from body = all_out (map_list (frame_to p from) (answer_to b h from body))
 
 pub record HearsAlone (p : Place) (h : HeldView) (from : ℕ) (body : FrameBody) (acts : List Act) : Type 0 where
   pub own : List Act
   pub brings : IsBrought h from body own
   pub left : HeldView
   pub leaves : Runs p h own left
-  pub is : acts ≡ own ++ answered p left from body
+  pub is : acts ≡ own ++ answered p h left from body
 
 -- bytes that are no frame, and a frame that isn't for this node from another one, are counted
 abbrev pub FrameAlone : Place → HeldView → Option BridgeFrame → List Act → Type 0

@@ -1,12 +1,12 @@
 -- Which frames each event gives out.
-use Rattle.std.specs.Prelude.{◌≡◌, ℕ, cond, List, [], ◌∷◌, ◌++◌, map as map_list, Option, Some, None}
+use Rattle.std.specs.Prelude.{◌≡◌, ℕ, Bool, cond, List, [], ◌∷◌, ◌++◌, map as map_list, Option, Some, None}
 use Rattle.std.specs.List.{filter}
 use Rattle.bridge_deltas.specs.Lane.{first_frames}
 use Rattle.bridge_frames.specs.declared.body.FrameBody.{FrameBody}
 use Rattle.bridge_frames.specs.declared.body.FrameBody.TheVariants.{Hello, Delta, Know, Forward, Got}
 use Rattle.bridge_frames.specs.declared.frame.BridgeFrame.{BridgeFrame}
 use Rattle.bridge_frames.specs.Frames.{frame_in}
-use Rattle.node_bridge.specs.View.{IsToShip, lane_to}
+use Rattle.node_bridge.specs.View.{IsToShip, greeting_for, is_older, lane_to}
 use Rattle.replica_store.specs.States.{State}
 use Rattle.node_work.specs.Acts.{Act, Bridge, Runs, gather}
 use Rattle.node_work.specs.Doings.{is_small}
@@ -48,23 +48,28 @@ ShippedFrames p h peer fs =
     (s : Option State) × IsToShip peer h.bridge h.store s × (fs ≡ those_small (deltas_to p peer s ++ first_frames p.id peer (lane_to h.bridge peer)))
 
 -- ---- in answer to a frame
--- the dots that the node has taken, or the number of the last message that it has taken of the sender's lane
-abbrev pub answer_to : HeldView → ℕ → FrameBody → List FrameBody
-answer_to h from Hello = Know h.store.taken ∷ []
-answer_to h from (Delta s) = Know h.store.taken ∷ []
-answer_to h from (Know dots) = []
-answer_to h from (Forward number m) = Got (lane_to h.bridge from).took ∷ []
-answer_to h from (Got number) = []
+-- where the rows are older than what the sender of a Hello took, it is also told what the node has
+abbrev pub again_to : (older : Bool) → HeldView → ℕ → List FrameBody
+again_to older h from = cond older (Hello (greeting_for from h.bridge h.store) ∷ []) []
+
+-- the dots that the node has taken, or the number of the last message that it has taken of the sender's lane; by what it held before the
+-- frame, and what it holds then
+abbrev pub answer_to : (before after : HeldView) → ℕ → FrameBody → List FrameBody
+answer_to b h from (Hello g) = Know h.store.taken ∷ again_to (is_older from g.took b.bridge) h from
+answer_to b h from (Delta s) = Know h.store.taken ∷ []
+answer_to b h from (Know dots) = []
+answer_to b h from (Forward number m) = Got (lane_to h.bridge from).took ∷ []
+answer_to b h from (Got number) = []
 
 -- to a frame for this node from another one
-abbrev pub answers_to : Place → HeldView → Option BridgeFrame → List BridgeFrame
-answers_to p h None = []
-answers_to p h (Some f) = cond (is_for_node p f) (those_small (map_list (frame_to p f.from) (answer_to h f.from f.body))) []
+abbrev pub answers_to : Place → (before after : HeldView) → Option BridgeFrame → List BridgeFrame
+answers_to p b h None = []
+answers_to p b h (Some f) = cond (is_for_node p f) (those_small (map_list (frame_to p f.from) (answer_to b h f.from f.body))) []
 
 -- ---- an event, by what the node holds once what is due is done, and what it holds at the end
 abbrev pub AreOfEvent : Place → HeldView → HeldView → EventKind → List BridgeFrame → Type 0
-AreOfEvent p h last (kinds.Frame bytes) fs = fs ≡ answers_to p last (frame_in bytes)
-AreOfEvent p h last (kinds.Linked peer) fs = fs ≡ cond (is_other p peer) (those_small (frame_to p peer Hello ∷ [])) []
+AreOfEvent p h last (kinds.Frame bytes) fs = fs ≡ answers_to p h last (frame_in bytes)
+AreOfEvent p h last (kinds.Linked peer) fs = fs ≡ cond (is_other p peer) (those_small (frame_to p peer (Hello (greeting_for peer h.bridge h.store)) ∷ [])) []
 AreOfEvent p h last (kinds.Ship peer) fs = cond (is_other p peer) (ShippedFrames p h peer fs) (fs ≡ [])
 AreOfEvent p h last kind fs = fs ≡ []
 

@@ -9,7 +9,7 @@ use Rattle.replica_store.specs.States.{State}
 use Rattle.bridge_deltas.specs.Links.{LinksView}
 use Rattle.bridge_deltas.specs.Shipped.{IsShipped}
 use Rattle.bridge_deltas.proofs.Shipping.{shipped_one}
-use Rattle.node_bridge.specs.View.{BridgeView, IsToShip, belief_of, has_lanes}
+use Rattle.node_bridge.specs.View.{BridgeView, IsToShip, belief_of, has_lanes, may_give}
 use Rattle.node_bridge.proofs.Telling.{bridge_of}
 
 pub within : (l : LinksView) (peer : ℕ) → peer < length l.lanes → has_lanes (bridge_of l) peer ≡ true
@@ -28,3 +28,8 @@ to_ship_one peer b s None (Some u) (inr all) q = absurd (q.1 all)
 to_ship_one peer b s (Some t) None p (inl lacks) = absurd (true≢false (sym p.0 ∙ lacks))
 to_ship_one peer b s (Some t) None p (inr all) = absurd (p.1 all)
 to_ship_one peer b s (Some t) (Some u) p q = ap Some (shipped_one (belief_of b peer) b.deltas s t u p.2 q.2)
+
+-- what may be given of the lane is nothing to the state
+pub to_ship_same : (peer : ℕ) (b : BridgeView) (s : State) (x : Option State) → IsToShip peer (may_give peer b) s x → IsToShip peer b s x
+to_ship_same peer b s None d = d
+to_ship_same peer b s (Some t) d = d
