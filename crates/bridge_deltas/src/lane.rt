@@ -343,7 +343,7 @@ impl Lane {
     // How many of those that wait have rows under their numbers.
     fn still_told(&self) -> usize
         ensures same { result ≡ told_count self.now }
-        ensures few { self.now.told.gone + result ≤ self.now.told.gone + length self.now.told.waiting }
+        ensures few { result ≤ length self.now.told.waiting }
     {
         let ahead = self.gone as u64 + self.shift;
         (self.told as u64).saturating_sub(ahead) as usize

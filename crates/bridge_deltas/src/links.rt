@@ -473,10 +473,10 @@ impl Links {
     pub fn last_gone(&self, peer: u16) -> LaneNumber
         ensures { result ≡ (kept_of self.now peer).lane.gone }
     {
-        match self.lanes.get(peer as usize) {
-            Some(lane) => lane.gone(),
-            None => LaneNumber::of(0),
-        }
+        let Some(lane) = self.lanes.get(peer as usize) else {
+            return LaneNumber::of(0);
+        };
+        lane.gone()
     }
 
     /// The lanes are such as rows can say, so that what is written is read again. This does nothing; its contract is a law.
