@@ -7,7 +7,8 @@ use Rattle.causal_context.specs.Dots.{Dots}
 use Rattle.home_table.specs.Table.{Table}
 use Rattle.bridge_frames.specs.declared.forward.Forward.{Forward}
 use Rattle.bridge_lanes.specs.Lanes.{Lanes, new_lanes, with_put, with_took, with_got}
-use Rattle.node_bridge.specs.View.{BridgeView, belief_of, lane_to, woken_bridge}
+use Rattle.bridge_lanes.specs.Openings.{with_greeted}
+use Rattle.node_bridge.specs.View.{BridgeView, belief_of, lane_to, opening_of, woken_bridge}
 use Rattle.node_work.specs.declared.counts.Counts.{Counts}
 use Rattle.node_work.specs.declared.counts.Missed.{Missed}
 use Rattle.node_work.specs.declared.counts.Missed.TheVariants.{LaneFull, BadFrame, FrameTooLarge, TableRefused}
@@ -54,6 +55,9 @@ bridge_beliefs h (Put peer m) b = b ∙ sym (length-set h.bridge.lanes peer (wit
 bridge_beliefs h (Took peer number m copies lost) b = b ∙ sym (length-set h.bridge.lanes peer (with_took number (lane_to h.bridge peer)))
 bridge_beliefs h (Got peer number) b = b ∙ sym (length-set h.bridge.lanes peer (with_got number (lane_to h.bridge peer)))
 bridge_beliefs h (Believed peer dots) b = length-set h.bridge.beliefs peer (set.union (belief_of h.bridge peer) dots) ∙ b
+bridge_beliefs h (Greeted peer g) b =
+    length-set h.bridge.beliefs peer g.dots ∙ b ∙ sym (length-set h.bridge.lanes peer (with_greeted (opening_of h.bridge peer) g.gone g.took (lane_to h.bridge peer)))
+bridge_beliefs h (Cleared peer) b = b
 bridge_beliefs h (Gave f) b = b
 bridge_beliefs h (Left_out what) b = b
 
