@@ -1,5 +1,5 @@
 -- Rows and changes of lanes, one lane after the other.
-use Rattle.std.proofs.Common.{◌≡◌, ◌⊎◌, inl, inr, Result, Ok, Err, ℕ, zero, suc, ◌+◌, ◌-◌, ◌<◌, ◌≤◌, ◌^◌, min, List, [], ◌∷◌, ◌++◌, map, length, take, drop, get_or, append-nil, append_assoc, length-drop, refl, sym, ap, subst, ◌∙◌, arith}
+use Rattle.std.proofs.Common.{◌≡◌, ◌⊎◌, inl, inr, Result, Ok, Err, ℕ, zero, suc, ◌+◌, ◌-◌, ◌<◌, ◌≤◌, ◌^◌, min, List, [], ◌∷◌, ◌++◌, map, length, take, drop, get_or, Option, Some, append-nil, append_assoc, length-drop, refl, sym, ap, subst, ◌∙◌, arith}
 use Rattle.std.specs.Prelude.{IsOk, OnErr}
 use Rattle.std.specs.List.{AllByRecursion}
 use Rattle.std.proofs.lemmas.Bool.{cases_lt}
@@ -7,6 +7,7 @@ use Rattle.std.proofs.lemmas.List.{drop-drop, take_all, take_more}
 use Rattle.std.proofs.lemmas.List.Elements.{All-from_recursion}
 use Rattle.bridge_frames.specs.declared.forward.Forward.{Forward}
 use Rattle.row_store.specs.Rows.{Plain}
+use Rattle.bridge_lanes.specs.Openings.{Opening, last_in, opened_at}
 use Rattle.bridge_lanes.specs.Rows.{Messages, each, message_rows, numbers_of, rows_of, waiting_of}
 use Rattle.bridge_lanes.specs.Reading.{AreLanes, IsLane}
 use Rattle.bridge_lanes.specs.ChangeSteps.{IsLater, gone_count, message_changes, told_count}
@@ -14,6 +15,7 @@ use Rattle.bridge_lanes.specs.Changes.{KeptLane, Left, now_of, put, removals, to
 use Rattle.bridge_lanes.proofs.Cuts.{each_last}
 use Rattle.bridge_lanes.proofs.Leading.{each_map}
 use Rattle.bridge_lanes.proofs.Order.{all_both}
+use Rattle.bridge_deltas.specs.Lane.{told_lane}
 
 none_both : {A : Type 0} (xs ys : List A) → xs ++ ys ≡ [] → (xs ≡ []) × (ys ≡ [])
 none_both [] ys none = (refl, none)
@@ -198,3 +200,19 @@ told_all base shift all gone told took told_took some e =
 
 pub told_took_is : (base shift : ℕ) (all : List Forward) (gone told took told_took : ℕ) → (kept base shift all gone told took told_took).told ≡ (kept base shift all gone told took told_took).lane → told_took ≡ took
 told_took_is base shift all gone told took told_took e = ap (λ (l : Messages). l.took) e
+
+-- ---- what had been put in at the opening
+
+mapped_last : {X Y : Type 0} (f : X → Y) (xs : List X) (x : X) → map f (xs ++ x ∷ []) ≡ map f xs ++ f x ∷ []
+mapped_last f [] x = refl
+mapped_last f (y ∷ ys) x = ap (λ zs. f y ∷ zs) (mapped_last f ys x)
+
+pub one_more_opened : (ks : List KeptLane) (i : ℕ) (k : KeptLane) (last : ℕ) (old new : List Opening) → i < length ks → k ≡ get_or ks i k → last ≡ last_in k.lane
+    → old ≡ map (λ (x : KeptLane). opened_at x.lane) (take i ks) → new ≡ old ++ Some last ∷ [] → new ≡ map (λ (x : KeptLane). opened_at x.lane) (take (i + 1) ks)
+one_more_opened ks i k last old new lt at is so pushed =
+    let f : KeptLane → Opening = λ x. opened_at x.lane in
+    pushed ∙ (λ j. so j ++ Some (is j) ∷ []) ∙ sym (mapped_last f (take i ks) k) ∙ ap (map f) (sym (taken_more ks i k lt at))
+
+pub opened_told : (ls : List Messages) → map (λ (x : KeptLane). opened_at x.lane) (map told_lane ls) ≡ map opened_at ls
+opened_told [] = refl
+opened_told (l ∷ ls) = ap (λ zs. opened_at l ∷ zs) (opened_told ls)

@@ -198,8 +198,8 @@ impl Lane {
         self.gone += self.up_to(number.get());
     }
 
-    // The number of the last message that was put in.
-    fn last(&self) -> u64
+    /// The number of the last message that was put in.
+    pub fn last(&self) -> u64
         ensures same { result ≡ last_in self.now.lane }
         ensures below { result < 2 ^ 62 }
     {
@@ -315,7 +315,14 @@ impl Lane {
         ensures begins { take (length out.old.items) out.new.items ≡ out.old.items }
         ensures none { waiting_of peer self.now.lane ≡ [] → IsOk result }
     {
-        append_rows(alloc, peer, self.base + self.shift, &self.messages, self.gone, out)
+        append_rows(
+            alloc,
+            peer,
+            self.base + self.shift,
+            &self.messages,
+            self.gone,
+            out,
+        )
     }
 
     /// Appends the row of the numbers of the peer's lanes, if they have one: else it takes no memory. Where memory runs out `out`
@@ -362,7 +369,14 @@ impl Lane {
         let still = self.still_told();
         append_removals(alloc, peer, self.base, self.told - still, out)?;
         let from = self.gone + still;
-        append_puts(alloc, peer, self.base + self.shift, &self.messages, from, out)
+        append_puts(
+            alloc,
+            peer,
+            self.base + self.shift,
+            &self.messages,
+            from,
+            out,
+        )
     }
 
     /// Appends what has changed of the row of the numbers since it was told: where nothing has, no memory is taken.

@@ -234,16 +234,14 @@ fn lanes_of(alloc: Global, read: Vec<ReadLane>) -> Result<Vec<Lane>, NoMemory>
     Ok(lanes)
 }
 
-// What had been put into lanes that rows say.
-fn openings_of(alloc: Global, read: &[ReadLane]) -> Result<Vec<Option<u64>>, NoMemory>
-    requires { AllByRecursion (λ r. IsLane (lane_in r)) read.now }
-    ensures ok { IfOk result (λ o. o.items ≡ map opened_at (map lane_in read.now)) }
-    ensures memory { OnErr result (0 < length read.now) }
+// What had been put into the lanes.
+fn openings_of(alloc: Global, lanes: &Vec<Lane>) -> Result<Vec<Option<u64>>, NoMemory>
+    ensures ok { IfOk result (λ o. o.items ≡ map (λ k. opened_at k.lane) lanes.now.items) }
+    ensures memory { OnErr result (0 < length lanes.now.items) }
 {
     let mut openings = Vec::new(alloc);
-    for lane in read {
-        let last = lane.gone + lane.messages.len() as u64;
-        openings.push(Some(last))?;
+    for i in 0..lanes.len() {
+        openings.push(Some(lanes[i].last()))?;
     }
     Ok(openings)
 }
@@ -254,15 +252,16 @@ fn opened(alloc: Global, node: u16, nodes: u16, read: Vec<ReadLane>) -> Result<L
     ensures ok { IfOk result (λ l. l ≡ opened_links node nodes (map lane_in read.items)) }
     ensures memory { OnErr result (0 < nodes) }
 {
+    let lanes = lanes_of(alloc, read)?;
     Ok(Links {
         alloc,
         node,
         nodes,
         beliefs: no_beliefs(alloc, nodes)?,
-        openings: openings_of(alloc, &read)?,
+        openings: openings_of(alloc, &lanes)?,
         confirmed: no_counts(alloc, nodes)?,
         deltas: VecDeque::new(alloc),
-        lanes: lanes_of(alloc, read)?,
+        lanes,
     })
 }
 

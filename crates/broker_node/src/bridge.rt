@@ -187,11 +187,7 @@ fn answer_hello(work: &mut Work, to: u16, older: bool) -> Result<(), NodeFault>
     ensures { ComesTo (λ x. x) result work.old work.new (AnswersHello to older) }
 {
     tell_taken(work, to)?;
-    if older {
-        say_hello(work, to)
-    } else {
-        Ok(())
-    }
+    if older { say_hello(work, to) } else { Ok(()) }
 }
 
 /// Merges a delta, and answers with the dots that are taken now.
