@@ -6,6 +6,7 @@ use Rattle.std.specs.List.{AllByRecursion}
 use Rattle.std.proofs.lemmas.Bool.{cases_Bool, cases_lt, ne_eqb}
 use Rattle.std.proofs.lemmas.List.{length-replicate}
 use Rattle.bridge_lanes.specs.Lanes.{Lanes, lane_of, new_lane, new_lanes}
+use Rattle.bridge_lanes.specs.Openings.{Opening, opened_at}
 use Rattle.bridge_frames.specs.declared.forward.Forward.{Forward}
 use Rattle.bridge_frames.specs.Forwards.{forward}
 use Rattle.bridge_frames.proofs.ForwardLaws.{forward_is}
@@ -185,9 +186,13 @@ new_told : (n : ℕ) → replicate n new_kept ≡ map_list told_lane (replicate 
 new_told zero = refl
 new_told (suc n) = ap (λ ks. new_kept ∷ ks) (new_told n)
 
+new_openings : (n : ℕ) → replicate n (Some 0) ≡ map_list opened_at (new_lanes {A = Forward} n)
+new_openings zero = refl
+new_openings (suc n) = ap (λ (os : List Opening). Some 0 ∷ os) (new_openings n)
+
 -- what is kept of new lanes is what a new node keeps
 pub new_opened : (id nodes : ℕ) → new_links id nodes ≡ opened_links id nodes (new_lanes nodes)
-new_opened id nodes = λ i. record (new_links id nodes) { lanes = new_told nodes i }
+new_opened id nodes = λ i. record (new_links id nodes) { openings = new_openings nodes i; lanes = new_told nodes i }
 
 -- ---- the lane of the node itself
 kept_told : (lanes : Lanes Forward) (peer : ℕ) → (get_or (map_list told_lane lanes) peer new_kept).lane ≡ lane_of lanes peer
