@@ -3,7 +3,7 @@
 ghost use Rattle.std.specs.Prelude.{◌≡◌};
 
 use bridge_deltas::{Links, Offer};
-use bridge_frames::{BridgeFrame, Forward, FrameBody, LaneNumber, Picks};
+use bridge_frames::{BridgeFrame, Forward, FrameBody, Greeting, LaneNumber, Picks};
 use causal_context::{Context, Dot, Lattice};
 use mqtt_message::{Message, SharedMessage};
 use replica_store::{Operation, ReplicaStore, delta_of};
@@ -326,4 +326,90 @@ fn what_is_in_none_of_the_last_4096_deltas_is_shipped_with_the_whole_store(rt: H
         );
         drop(shipped);
     }
+}
+
+// Links of the first of two nodes, opened from the rows of lanes in which 2 messages were put, of which the first is gone.
+fn opened(rt: &impl Abort, alloc: Global) -> Links
+    ensures { result.nodes ≡ 2 }
+{
+    let mut links = two_links(rt, alloc);
+    forward(rt, alloc, &mut links);
+    forward(rt, alloc, &mut links);
+    links.got(1, LaneNumber::of(1));
+    let rows = links.rows().expect(rt, "memory");
+    drop(links);
+    let opened = Links::from_rows(alloc, 0, 2, &rows).expect(rt, "links");
+    drop(rows);
+    assert!(rt; opened.nodes() == 2);
+    opened
+}
+
+// The other node says that its messages up to `gone` are gone, and that it took those up to `took`; it has no dots.
+fn greet(alloc: Global, links: &mut Links, gone: LaneNumber, took: LaneNumber)
+    requires { links.old.nodes ≡ 2 }
+    ensures { links.new.nodes ≡ 2 }
+{
+    let dots = Context::new(alloc);
+    links.greet(1, Greeting { gone, took, dots });
+}
+
+#[test]
+fn what_was_put_in_since_older_rows_waits_behind_what_was_taken(rt: HostRuntime) {
+    let alloc = rt.alloc();
+    let mut links = opened(&rt, alloc);
+    assert_eq!(rt; forward(&rt, alloc, &mut links), Offer::Queued(3));
+    assert!(rt; links.is_behind(1, LaneNumber::of(5)));
+    greet(alloc, &mut links, LaneNumber::of(0), LaneNumber::of(5));
+    assert!(rt; wait(&rt, alloc, &links, &[6]));
+    assert!(rt; tell(&rt, alloc, &mut links, &[0, 7, 8]));
+    assert!(rt; links.nodes() == 2);
+    assert_eq!(rt; forward(&rt, alloc, &mut links), Offer::Queued(7));
+    drop(links);
+}
+
+#[test]
+fn a_hello_lets_go_what_was_taken(rt: HostRuntime) {
+    let alloc = rt.alloc();
+    let mut links = opened(&rt, alloc);
+    forward(&rt, alloc, &mut links);
+    greet(alloc, &mut links, LaneNumber::of(0), LaneNumber::of(2));
+    assert!(rt; wait(&rt, alloc, &links, &[3]));
+    greet(alloc, &mut links, LaneNumber::of(0), LaneNumber::of(3));
+    assert!(rt; wait(&rt, alloc, &links, &[]));
+    drop(links);
+}
+
+#[test]
+fn what_may_have_been_given_is_let_go(rt: HostRuntime) {
+    let alloc = rt.alloc();
+    let mut links = opened(&rt, alloc);
+    forward(&rt, alloc, &mut links);
+    links.may_give(1);
+    assert!(rt; !links.is_behind(1, LaneNumber::of(3)));
+    greet(alloc, &mut links, LaneNumber::of(0), LaneNumber::of(3));
+    assert!(rt; wait(&rt, alloc, &links, &[]));
+    drop(links);
+}
+
+#[test]
+fn what_a_peer_has_no_more_counts_as_taken(rt: HostRuntime) {
+    let alloc = rt.alloc();
+    let mut links = two_links(&rt, alloc);
+    greet(alloc, &mut links, LaneNumber::of(7), LaneNumber::of(0));
+    assert!(rt; !links.arrived(1, LaneNumber::of(7)));
+    assert!(rt; links.arrived(1, LaneNumber::of(8)));
+    drop(links);
+}
+
+#[test]
+fn what_a_peer_has_lost_is_shipped_again(rt: HostRuntime) {
+    let alloc = rt.alloc();
+    let mut links = two_links(&rt, alloc);
+    let mut store = ReplicaStore::new(alloc);
+    keep(&rt, alloc, &mut links, &mut store, 1);
+    links.knows(1, store.taken()).expect(&rt, "memory");
+    assert!(rt; ships_none(&rt, &links, &store));
+    greet(alloc, &mut links, LaneNumber::of(0), LaneNumber::of(0));
+    assert!(rt; ships_only(&rt, &links, &store, 1));
+    drop((links, store));
 }
