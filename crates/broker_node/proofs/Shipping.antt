@@ -1,22 +1,24 @@
 -- What a node sends of its own accord is what it holds.
-use Rattle.std.proofs.Common.{◌≡◌, ℕ, ◌+◌, zero, suc, arith, add-zero, Bool, true, false, cond, List, [], ◌∷◌, take, Option, Some, refl, sym, ap, subst, ◌∙◌}
+use Rattle.std.proofs.Common.{◌≡◌, ℕ, ◌+◌, zero, suc, arith, add-zero, Bool, true, false, cond, List, [], ◌∷◌, take, Option, Some, None, refl, sym, ap, subst, ◌∙◌}
 use Rattle.std.specs.List.{slice_get}
+use Rattle.std.specs.Prelude.{get_or, slice_set}
 use Rattle.bridge_deltas.specs.Lane.{first_frames, frames_from}
 use Rattle.bridge_frames.specs.declared.body.FrameBody.{FrameBody}
 use Rattle.bridge_frames.specs.declared.body.FrameBody.TheVariants as bodies
 use Rattle.bridge_frames.specs.declared.forward.Forward.{Forward}
 use Rattle.bridge_frames.specs.declared.frame.BridgeFrame.{BridgeFrame}
 use Rattle.bridge_lanes.specs.Lanes.{Waits}
-use Rattle.node_bridge.specs.View.{BridgeView, IsToShip, greeting_for, lane_to}
+use Rattle.bridge_lanes.specs.Openings.{Opening, IsWithin}
+use Rattle.node_bridge.specs.View.{BridgeView, IsToShip, greeting_for, lane_to, opening_of}
 use Rattle.replica_store.specs.States.{State}
 use Rattle.node_work.specs.declared.counts.Missed.TheVariants.{FrameTooLarge}
 use Rattle.node_work.specs.Acts.{Act, Bridge, Runs}
 use Rattle.node_work.specs.Doings.{GivesFrame, Misses, is_small}
-use Rattle.node_work.specs.Held.Bridge.{Carries, Gave}
+use Rattle.node_work.specs.Held.Bridge.{Carries, Cleared, Gave}
 use Rattle.node_work.specs.View.{HeldView, Place, WorkView}
 use Rattle.node_work.specs.Working.{Acting, Did, Doing, Each, If, Looks}
 use Rattle.node_work.proofs.Working.{Reaches, did_as}
-use Rattle.broker_node.specs.Bridge.{ShipsMessages}
+use Rattle.broker_node.specs.Bridge.{GivesState, ShipsMessages, ShipsState}
 
 -- ---- the state
 
@@ -32,26 +34,26 @@ abbrev pub AreOwn : Place → HeldView → List BridgeFrame → Type 0
 AreOwn p h [] = Unit {0}
 AreOwn p h (f ∷ fs) = (f.from ≡ p.id) × Carries h f.to f.body × AreOwn p h fs
 
-own_from : (p : Place) (h : HeldView) (peer n count : ℕ) (rest : List Forward) → ((j : ℕ) (m : Forward) → slice_get rest j ≡ Some m → Waits (lane_to h.bridge peer) (n + j) m) → AreOwn p h (frames_from p.id peer n (take count rest))
-own_from p h peer n zero rest waits = tt
-own_from p h peer n (suc count) [] waits = tt
-own_from p h peer n (suc count) (m ∷ ms) waits = (
+own_from : (p : Place) (h : HeldView) (peer n count : ℕ) (rest : List Forward) → opening_of h.bridge peer ≡ None → ((j : ℕ) (m : Forward) → slice_get rest j ≡ Some m → Waits (lane_to h.bridge peer) (n + j) m) → AreOwn p h (frames_from p.id peer n (take count rest))
+own_from p h peer n zero rest none waits = tt
+own_from p h peer n (suc count) [] none waits = tt
+own_from p h peer n (suc count) (m ∷ ms) none waits = (
   refl,
-  subst (λ i. Waits (lane_to h.bridge peer) i m) (add-zero n) (waits 0 m refl),
-  own_from p h peer (suc n) count ms (λ j x e. let later : n + suc j ≡ suc n + j = omega arith in subst (λ i. Waits (lane_to h.bridge peer) i x) later (waits (suc j) x e)),
+  (subst (λ i. Waits (lane_to h.bridge peer) i m) (add-zero n) (waits 0 m refl), subst (λ (o : Opening). IsWithin o n) (sym none) tt),
+  own_from p h peer (suc n) count ms none (λ j x e. let later : n + suc j ≡ suc n + j = omega arith in subst (λ i. Waits (lane_to h.bridge peer) i x) later (waits (suc j) x e)),
 )
 
-first_own : (p : Place) (h : HeldView) (peer : ℕ) → AreOwn p h (first_frames p.id peer (lane_to h.bridge peer))
-first_own p h peer =
+first_own : (p : Place) (h : HeldView) (peer : ℕ) → opening_of h.bridge peer ≡ None → AreOwn p h (first_frames p.id peer (lane_to h.bridge peer))
+first_own p h peer none =
     let l = lane_to h.bridge peer in
-    own_from p h peer (suc l.gone) 64 l.waiting (λ j m e. let number : suc l.gone + j ≡ suc (l.gone + j) = omega arith in (j, number, e))
+    own_from p h peer (suc l.gone) 64 l.waiting none (λ j m e. let number : suc l.gone + j ≡ suc (l.gone + j) = omega arith in (j, number, e))
 
 -- what a frame that goes out leaves as it was
 carries_still : (h k : HeldView) (to : ℕ) (body : FrameBody) → k.bridge ≡ h.bridge → k.store ≡ h.store → Carries h to body → Carries k to body
 carries_still h k to (bodies.Hello g) bridge store d = d ∙ (λ i. greeting_for to (sym bridge i) (sym store i))
 carries_still h k to (bodies.Delta t) bridge store d = subst (λ b. IsToShip to b k.store (Some t)) (sym bridge) (subst (λ s. IsToShip to h.bridge s (Some t)) (sym store) d)
 carries_still h k to (bodies.Know dots) bridge store d = d ∙ ap (λ (s : State). s.taken) (sym store)
-carries_still h k to (bodies.Forward number m) bridge store d = subst (λ b. Waits (lane_to b to) number m) (sym bridge) d
+carries_still h k to (bodies.Forward number m) bridge store d = (subst (λ b. Waits (lane_to b to) number m) (sym bridge) d.0, subst (λ (b : BridgeView). IsWithin (opening_of b to) number) (sym bridge) d.1)
 carries_still h k to (bodies.Got number) bridge store d = d ∙ ap (λ b. (lane_to b to).took) (sym bridge)
 
 own_still : (p q : Place) (h k : HeldView) (fs : List BridgeFrame) → q ≡ p → k.bridge ≡ h.bridge → k.store ≡ h.store → AreOwn p h fs → AreOwn q k fs
@@ -84,8 +86,31 @@ own_next w m f fs d own =
 looks_reached : {A B : Type 0} (w : WorkView) (see : Place → HeldView → A) (P : A → Option B → Doing) (x : A) → see w.place w.held ≡ x → Reaches w (Looks see P) w (P x)
 looks_reached w see P x e out w' d = did_as w w' (P x out) (Looks see P out) (λ acts q. subst (λ y. P y out w.place w.held acts) (sym e) q) d
 
-pub ships_begin : (peer : ℕ) (w : WorkView) (fs : List BridgeFrame) → fs ≡ first_frames w.place.id peer (lane_to w.held.bridge peer) → Reaches w (ShipsMessages peer) w (Each GivesFrame fs) × AreOwn w.place w.held fs
-ships_begin peer w fs e = (
+pub ships_begin : (peer : ℕ) (w : WorkView) (fs : List BridgeFrame) → opening_of w.held.bridge peer ≡ None → fs ≡ first_frames w.place.id peer (lane_to w.held.bridge peer) → Reaches w (ShipsMessages peer) w (Each GivesFrame fs) × AreOwn w.place w.held fs
+ships_begin peer w fs none e = (
   looks_reached w (λ p h. first_frames p.id peer (lane_to h.bridge peer)) (Each GivesFrame) fs (sym e),
-  subst (AreOwn w.place w.held) (sym e) (first_own w.place w.held peer),
+  subst (AreOwn w.place w.held) (sym e) (first_own w.place w.held peer none),
 )
+
+-- ---- what may be given
+
+given_stays : (s : Option State) (peer : ℕ) (p : Place) (h k : HeldView) (acts : List Act) → GivesState peer s (Some tt) p h acts → Runs p h acts k → k.bridge ≡ h.bridge
+given_stays None peer p h k acts d r = ap (λ (v : HeldView). v.bridge) (subst (λ xs. Runs p h xs k) d.1 r)
+given_stays (Some s) peer p h k acts d r =
+    let f : BridgeFrame = record { from = p.id; to = peer; body = bodies.Delta s } in
+    (stays_by (is_small f) f p h k acts d r).0
+
+-- what goes out of the state leaves it
+pub state_stays : (peer : ℕ) (w m : WorkView) → Did w m (ShipsState peer (Some tt)) → m.held.bridge ≡ w.held.bridge
+state_stays peer w m d = (let x = d.does in given_stays x.0 peer w.place w.held m.held d.acts x.2 d.runs)
+
+-- none is held back once it may be given
+none_there : (os : List Opening) (peer : ℕ) → get_or (slice_set os peer None) peer None ≡ None
+none_there [] peer = refl
+none_there (o ∷ os) zero = refl
+none_there (o ∷ os) (suc peer) = none_there os peer
+
+pub cleared_none : (peer : ℕ) (w m : WorkView) → Did w m (Acting (λ p h. Bridge (Cleared peer)) (Some tt)) → opening_of m.held.bridge peer ≡ None
+cleared_none peer w m d =
+    let s = subst (λ xs. Runs w.place w.held xs m.held) d.does.1 d.runs in
+    ap (λ (v : HeldView). opening_of v.bridge peer) (s.2 ∙ s.1.1) ∙ none_there w.held.bridge.openings peer

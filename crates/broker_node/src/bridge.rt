@@ -1,8 +1,8 @@
 //! What nodes tell one another.
 
-ghost use Rattle.std.specs.Prelude.{◌≡◌, ◌≢◌, false, IfOk, Ok};
+ghost use Rattle.std.specs.Prelude.{◌≡◌, ◌≢◌, false, IfOk, None, Ok};
 ghost use Rattle.broker_node.specs.Bridge.{AnswersHello, Greets, SaysHello, Ships, ShipsState, ShipsMessages, ShipsWhatWaits, Hears, HearsFrame, TakesBody, TakesHello, TellsTaken, Merges, TakesMessage, TakesNext};
-ghost use Rattle.node_bridge.specs.View.{greeting_for, lane_to};
+ghost use Rattle.node_bridge.specs.View.{greeting_for, lane_to, opening_of};
 ghost use Rattle.node_work.specs.Doings.{GivesBody};
 ghost use Rattle.node_work.specs.Frames.{is_for_node, is_other, names_nodes};
 ghost use Rattle.node_work.specs.Held.Bridge.{Carries};
@@ -80,6 +80,7 @@ pub fn ship(work: &mut Work, peer: u16) -> Result<(), NodeFault>
 }
 
 fn ship_what_waits(work: &mut Work, peer: u16) -> Result<(), NodeFault>
+    requires { opening_of work.old.held.bridge peer ≡ None }
     ensures { ComesTo (λ x. x) result work.old work.new (ShipsWhatWaits peer) }
 {
     ship_state(work, peer)?;
@@ -98,6 +99,7 @@ fn ship_state(work: &mut Work, peer: u16) -> Result<(), NodeFault>
 }
 
 fn ship_messages(work: &mut Work, peer: u16) -> Result<(), NodeFault>
+    requires { opening_of work.old.held.bridge peer ≡ None }
     ensures { ComesTo (λ x. x) result work.old work.new (ShipsMessages peer) }
 {
     let frames = work.held().bridge().waiting(work.id(), peer)?;

@@ -59,7 +59,7 @@ module _ (count i : ℕ) (ms : List Operation) (took : ℕ → Dot → Bool) (h 
   can_go to (Hello g) c = tt
   can_go to (Delta s) c = tt
   can_go to (Know dots) c = tt
-  can_go to (Forward number m) c = waits_numbered count took h.bridge to number m k c
+  can_go to (Forward number m) c = waits_numbered count took h.bridge to number m k c.0
   can_go to (Got number) c = tt
 
   pub sound_in : (to : ℕ) (b : FrameBody) → Carries h to b → (s : State) → b ≡ Delta s → Sound ms s

@@ -105,7 +105,7 @@ module _ (p : Place) (others puts : ℕ → List Forward) where
   carried h put took k to bodies.Hello c = tt
   carried h put took k to (bodies.Delta s) c = tt
   carried h put took k to (bodies.Know dots) c = tt
-  carried h put took k to (bodies.Forward number m) c = waits_numbered (lane_of h.bridge.lanes to) (put to) (took to) (others to) number m (k to) c
+  carried h put took k to (bodies.Forward number m) c = waits_numbered (lane_of h.bridge.lanes to) (put to) (took to) (others to) number m (k to) c.0
   carried h put took k to (bodies.Got number) c = let t = (k to).taken in omega arith
 
   abbrev Grow : (ℕ → List Forward) → (ℕ → List Forward) → List Act → HeldView → Type 0

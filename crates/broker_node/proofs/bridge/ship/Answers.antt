@@ -5,7 +5,11 @@ use Rattle.node_work.specs.Held.Bridge.{Cleared}
 use Rattle.node_work.specs.Working.{Acting, Returns}
 use Rattle.node_work.proofs.Working.{comes_when, then_goes}
 use Rattle.broker_node.specs.Bridge.{ShipsTo, ShipsWhatWaits}
+use Rattle.broker_node.proofs.Shipping.{cleared_none}
 use Rattle.broker_node.proofs.bridge.ship.Goals as goal
+
+pub ship_what_waits-requires : goal.ship_what_waits-requires
+ship_what_waits-requires c = cleared_none c.args.peer c.args.work.now c.may_give.new.self c.may_give.ensures.comes
 
 pub returns-clause-comes : goal.returns-clause-comes
 returns-clause-comes c =

@@ -14,7 +14,7 @@ loop-frame-init c =
     let peer = c.args.peer in
     let held = c.bridge.ensures ∙ ap (λ (h : HeldView). h.bridge) c.held.ensures in
     let frames : into_iter_items c.into_iter-frame-iterator.result ≡ c.in_ok-frames.frames.items = c.into_iter-frame-iterator.ensures.into_iter_gives.0 in
-    ships_begin peer c.args.work.now (into_iter_items c.into_iter-frame-iterator.result) (frames ∙ c.in_ok-frames.ensures.frames ∙ (λ i. first_frames (c.id.ensures i) peer (lane_to (held i) peer)))
+    ships_begin peer c.args.work.now (into_iter_items c.into_iter-frame-iterator.result) c.requires (frames ∙ c.in_ok-frames.ensures.frames ∙ (λ i. first_frames (c.id.ensures i) peer (lane_to (held i) peer)))
 
 pub loop-frame-preserved : goal.loop-frame-preserved
 loop-frame-preserved c =

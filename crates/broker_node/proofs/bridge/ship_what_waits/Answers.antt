@@ -1,6 +1,12 @@
+use Rattle.std.proofs.Common.{ap, ◌∙◌}
+use Rattle.node_bridge.specs.View.{BridgeView, opening_of}
 use Rattle.node_work.proofs.Working.{then_goes, then_stops}
 use Rattle.broker_node.specs.Bridge.{ShipsMessages, ShipsState}
+use Rattle.broker_node.proofs.Shipping.{state_stays}
 use Rattle.broker_node.proofs.bridge.ship_what_waits.Goals as goal
+
+pub ship_messages-requires : goal.ship_messages-requires
+ship_messages-requires c = ap (λ (b : BridgeView). opening_of b c.args.peer) (state_stays c.args.peer c.args.work.now c.ship_state.new.work c.in_ok-ship_state.ensures) ∙ c.requires
 
 pub returns-in_err-ship_state : goal.returns-in_err-ship_state
 returns-in_err-ship_state c =
