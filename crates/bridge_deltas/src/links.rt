@@ -247,6 +247,7 @@ fn openings_of(alloc: Global, lanes: &Vec<Lane>) -> Result<Vec<Option<u64>>, NoM
 }
 
 // What a node keeps that has these lanes, and what had been put into them.
+#[tactic(auto, using(crate::proofs::Telling::opened_told))]
 fn opened(alloc: Global, node: u16, nodes: u16, read: Vec<ReadLane>) -> Result<Links, NoMemory>
     requires { AreLanes nodes (map lane_in read.items) }
     ensures ok { IfOk result (λ l. l ≡ opened_links node nodes (map lane_in read.items)) }

@@ -1,4 +1,5 @@
-use Rattle.std.proofs.Common.{◌≡◌, map, take}
+use Rattle.std.proofs.Common.{◌≡◌, take}
+use Rattle.std.specs.Prelude.{map}
 use Rattle.bridge_lanes.specs.Openings.{opened_at}
 use Rattle.bridge_deltas.proofs.links.openings_of.Given as goal
 
