@@ -56,7 +56,7 @@ pub record HeldLast (start : World) (run : List Played) (w : World) (i : ℕ) (h
 pub record LanesExplain (start : World) (put took : Histories) (run : List Played) (w : World) : Type 0 where
   pub begins : (i j : ℕ) → Begins (took j i) (put i j)
   pub sites : (i : ℕ) (h : HeldView) → HeldLast start run w i h → AreKept h.bridge.lanes (put i) (took i) (λ j. took j i)
-  pub frames : (n : ℕ) (sent : Frame) (f : BridgeFrame) → slice_get w.frames n ≡ Some sent → frame_in sent.bytes ≡ Some f → SaysOf (put f.from f.to) (took f.from f.to) f.body
+  pub frames : (n : ℕ) (sent : Frame) (f : BridgeFrame) → slice_get w.frames n ≡ Some sent → frame_in sent.bytes ≡ Some f → SaysOf (put f.from f.to) (took f.from f.to) (took f.to f.from) f.body
 
 moves_split : (p : Place) (xs ys : List Move) (a b : HeldView) → Moves p a (xs ++ ys) b → (m : HeldView) × Moves p a xs m × Moves p m ys b
 moves_split p [] ys a b r = (a, refl, r)
@@ -95,27 +95,27 @@ given_at acts before after f e =
 -- ---- what an event brings was in a frame that was released
 module _ (put took : Histories) (i : ℕ) where
   abbrev All : List BridgeAct → Type 0
-  All bs = AllTold (λ j. put j i) (λ j. took j i) bs
+  All bs = AllTold (λ j. put j i) (λ j. took j i) (λ j. took i j) bs
 
   all_none : (bs : List BridgeAct) → bs ≡ [] → All bs
   all_none bs e = subst All (sym e) tt
 
-  all_of : (from : ℕ) (b : FrameBody) (bs : List BridgeAct) → SaysOf (put from i) (took from i) b → IsHeardOf from b bs → All bs
-  all_of from bodies.Hello bs s h = all_none bs h
+  all_of : (from : ℕ) (b : FrameBody) (bs : List BridgeAct) → SaysOf (put from i) (took from i) (took i from) b → IsHeardOf from b bs → All bs
+  all_of from (bodies.Hello g) bs s h = subst All (sym h) (s, tt)
   all_of from (bodies.Delta t) bs s h = all_none bs h
   all_of from (bodies.Know dots) bs s h = subst All (sym h) (tt, tt)
   all_of from (bodies.Forward number m) bs s (inl h) = all_none bs h
   all_of from (bodies.Forward number m) bs s (inr h) = subst All (sym h.2) (s, tt)
   all_of from (bodies.Got number) bs s h = subst All (sym h) (s, tt)
 
-  all_for : (p : Place) (f : BridgeFrame) (bs : List BridgeAct) (b : Bool) → p.id ≡ i → is_for_node p f ≡ b → SaysOf (put f.from f.to) (took f.from f.to) f.body → cond b (IsHeardOf f.from f.body bs) (bs ≡ []) → All bs
+  all_for : (p : Place) (f : BridgeFrame) (bs : List BridgeAct) (b : Bool) → p.id ≡ i → is_for_node p f ≡ b → SaysOf (put f.from f.to) (took f.from f.to) (took f.to f.from) f.body → cond b (IsHeardOf f.from f.body bs) (bs ≡ []) → All bs
   all_for p f bs true own e s h =
       let named = and_true (nat_eq f.to p.id && not (nat_eq f.from p.id) && nat_lt f.from (nodes_of p)) (names_nodes (nodes_of p) f.body) e in
       let to : f.to ≡ i = nat_is f.to p.id (and_true (nat_eq f.to p.id) (not (nat_eq f.from p.id)) (and_true (nat_eq f.to p.id && not (nat_eq f.from p.id)) (nat_lt f.from (nodes_of p)) named.0).0).0 ∙ own in
-      all_of f.from f.body bs (subst (λ k. SaysOf (put f.from k) (took f.from k) f.body) to s) h
+      all_of f.from f.body bs (subst (λ k. SaysOf (put f.from k) (took f.from k) (took k f.from) f.body) to s) h
   all_for p f bs false own e s h = all_none bs h
 
-  module _ (sent : List Frame) (says : (n : ℕ) (g : Frame) (f : BridgeFrame) → slice_get sent n ≡ Some g → frame_in g.bytes ≡ Some f → SaysOf (put f.from f.to) (took f.from f.to) f.body) (p : Place) (own : p.id ≡ i) where
+  module _ (sent : List Frame) (says : (n : ℕ) (g : Frame) (f : BridgeFrame) → slice_get sent n ≡ Some g → frame_in g.bytes ≡ Some f → SaysOf (put f.from f.to) (took f.from f.to) (took f.to f.from) f.body) (p : Place) (own : p.id ≡ i) where
     all_in : (bytes : List ℕ) (bs : List BridgeAct) (n : ℕ) (g : Frame) (o : Option BridgeFrame) → slice_get sent n ≡ Some g → bytes ≡ g.bytes → frame_in bytes ≡ o → IsHeardIn p o bs → All bs
     all_in bytes bs n g None at is e h = all_none bs h
     all_in bytes bs n g (Some f) at is e h = all_for p f bs (is_for_node p f) own refl (says n g f at (ap frame_in (sym is) ∙ e)) h
