@@ -174,71 +174,71 @@ module _ (p : Place) (others puts mine : ℕ → List Forward) where
   -- a Hello lets go what was taken, and changes nothing else
   as_got : (h : HeldView) (put took : ℕ → List Forward) (peer : ℕ) (g : Greeting) → AreKept h.bridge.lanes put took others → ((j : ℕ) → length (mine j) ≤ length (took j)) → AreOpen h.bridge others → IsTold puts others mine (Greeted peer g)
       → with_greeted (opening_of h.bridge peer) g.gone g.took (lane_of h.bridge.lanes peer) ≡ with_got g.took (lane_of h.bridge.lanes peer)
-  as_got h put took peer g k more open told =
+  as_got h put took peer g k more within told =
       let t = (k peer).taken in
       let m = more peer in
       let gone = told.1 in
-      greets_as_got (opening_of h.bridge peer) g.gone g.took (lane_of h.bridge.lanes peer) (omega arith) (within_less (opening_of h.bridge peer) g.took (length (others peer)) told.0 (open peer))
+      greets_as_got (opening_of h.bridge peer) g.gone g.took (lane_of h.bridge.lanes peer) (omega arith) (within_less (opening_of h.bridge peer) g.took (length (others peer)) told.0 (within peer))
 
   pub lanes_grow : (acts : List Act) (h h' : HeldView) (put took : ℕ → List Forward) → AreKept h.bridge.lanes put took others → ((j : ℕ) → length (others j) ≤ length (put j))
       → ((j : ℕ) → Begins (took j) (puts j)) → ((j : ℕ) → length (mine j) ≤ length (took j)) → AreOpen h.bridge others → Runs p h acts h' → AllTold puts others mine (gather heard_in acts) → Grow put took acts h'
-  lanes_grow [] h h' put took k le begins more open r all =
+  lanes_grow [] h h' put took k le begins more within r all =
       subst (λ (q : ℕ → List Forward). LanesGrow p.id h'.bridge q (λ j. took j ++ []) others puts []) (λ i j. sym (append-nil (put j)) i)
       (subst (λ (t : ℕ → List Forward). LanesGrow p.id h'.bridge put t others puts []) (λ i j. sym (append-nil (took j)) i)
-      (record { kept = subst (λ (v : HeldView). AreKept v.bridge.lanes put took others) (sym r) k; opens = subst (λ (v : HeldView). AreOpen v.bridge others) (sym r) open; begins = begins; sent = λ f n at. none-some at }))
-  lanes_grow (MomentTaken at ∷ acts) h h' put took k le begins more open r all = lanes_grow acts r.0 h' put took (same_lanes r.0 _ put took r.1.1 k) le begins more (same_open r.0 _ r.1.1 open) r.2 all
-  lanes_grow (Began ∷ acts) h h' put took k le begins more open r all = lanes_grow acts r.0 h' put took (same_lanes r.0 _ put took r.1.1 k) le begins more (same_open r.0 _ r.1.1 open) r.2 all
-  lanes_grow (Moved homes ∷ acts) h h' put took k le begins more open r all = lanes_grow acts r.0 h' put took (same_lanes r.0 _ put took r.1.1 k) le begins more (same_open r.0 _ r.1.1 open) r.2 all
-  lanes_grow (Store a ∷ acts) h h' put took k le begins more open r all = lanes_grow acts r.0 h' put took (same_lanes r.0 _ put took r.1.1 k) le begins more (same_open r.0 _ r.1.1 open) r.2 all
-  lanes_grow (Connection (Opened c) ∷ acts) h h' put took k le begins more open r all = lanes_grow acts r.0 h' put took (same_lanes r.0 _ put took r.1.1 k) le begins more (same_open r.0 _ r.1.1 open) r.2 all
-  lanes_grow (Connection (Fed c piece) ∷ acts) h h' put took k le begins more open r all = lanes_grow acts r.0 h' put took (same_lanes r.0 _ put took r.1.1 k) le begins more (same_open r.0 _ r.1.1 open) r.2 all
-  lanes_grow (Connection (Accepted c client) ∷ acts) h h' put took k le begins more open r all = lanes_grow acts r.0 h' put took (same_lanes r.0 _ put took r.1.1 k) le begins more (same_open r.0 _ r.1.1 open) r.2 all
-  lanes_grow (Connection (Roomed c bytes) ∷ acts) h h' put took k le begins more open r all = lanes_grow acts r.0 h' put took (same_lanes r.0 _ put took r.1.1 k) le begins more (same_open r.0 _ r.1.1 open) r.2 all
-  lanes_grow (Connection (Closed c) ∷ acts) h h' put took k le begins more open r all = lanes_grow acts r.0 h' put took (same_lanes r.0 _ put took r.1.1 k) le begins more (same_open r.0 _ r.1.1 open) r.2 all
-  lanes_grow (Session (Begun client) ∷ acts) h h' put took k le begins more open r all = lanes_grow acts r.0 h' put took (same_lanes r.0 _ put took r.1.1 k) le begins more (same_open r.0 _ r.1.1 open) r.2 all
-  lanes_grow (Session (Called s) ∷ acts) h h' put took k le begins more open r all = lanes_grow acts r.0 h' put took (same_lanes r.0 _ put took r.1.1 k) le begins more (same_open r.0 _ r.1.1 open) r.2 all
-  lanes_grow (Session (Over client) ∷ acts) h h' put took k le begins more open r all = lanes_grow acts r.0 h' put took (same_lanes r.0 _ put took r.1.1 k) le begins more (same_open r.0 _ r.1.1 open) r.2 all
-  lanes_grow (Out o ∷ acts) h h' put took k le begins more open r all = lanes_grow acts r.0 h' put took (same_lanes r.0 _ put took r.1.1 k) le begins more (same_open r.0 _ r.1.1 open) r.2 all
-  lanes_grow (Named number ∷ acts) h h' put took k le begins more open r all = lanes_grow acts r.0 h' put took (same_lanes r.0 _ put took r.1.1 k) le begins more (same_open r.0 _ r.1.1 open) r.2 all
-  lanes_grow (Acknowledged client packet at grants offers ∷ acts) h h' put took k le begins more open r all = lanes_grow acts r.0 h' put took (same_lanes r.0 _ put took r.1.1 k) le begins more (same_open r.0 _ r.1.1 open) r.2 all
-  lanes_grow (Passed m copies lost routes ∷ acts) h h' put took k le begins more open r all = lanes_grow acts r.0 h' put took (same_lanes r.0 _ put took r.1.1 k) le begins more (same_open r.0 _ r.1.1 open) r.2 all
-  lanes_grow (Dropped ∷ acts) h h' put took k le begins more open r all = lanes_grow acts r.0 h' put took (same_lanes r.0 _ put took r.1.1 k) le begins more (same_open r.0 _ r.1.1 open) r.2 all
-  lanes_grow (Bridge (Believed peer dots) ∷ acts) h h' put took k le begins more open r all = lanes_grow acts r.0 h' put took (same_lanes r.0 _ put took r.1.1 k) le begins more (same_open r.0 _ r.1.1 open) r.2 all.1
-  lanes_grow (Bridge (Cleared peer) ∷ acts) h h' put took k le begins more open r all =
-      lanes_grow acts r.0 h' put took (same_lanes r.0 _ put took r.1.1 k) le begins more (same_open r.0 _ r.1.1 (λ j. within_gone h.bridge.openings peer j (length (others j)) (open j))) r.2 all
-  lanes_grow (Bridge (Left_out what) ∷ acts) h h' put took k le begins more open r all = lanes_grow acts r.0 h' put took (same_lanes r.0 _ put took r.1.1 k) le begins more (same_open r.0 _ r.1.1 open) r.2 all
-  lanes_grow (Bridge (Gave f) ∷ acts) h h' put took k le begins more open r all =
-      given_grow h h' put took f acts k r.1.0.from r.1.0.carries (lanes_grow acts r.0 h' put took (same_lanes r.0 _ put took r.1.1 k) le begins more (same_open r.0 _ r.1.1 open) r.2 all)
-  lanes_grow (Bridge (Put peer m) ∷ acts) h h' put took k le begins more open r all =
+      (record { kept = subst (λ (v : HeldView). AreKept v.bridge.lanes put took others) (sym r) k; opens = subst (λ (v : HeldView). AreOpen v.bridge others) (sym r) within; begins = begins; sent = λ f n at. none-some at }))
+  lanes_grow (MomentTaken at ∷ acts) h h' put took k le begins more within r all = lanes_grow acts r.0 h' put took (same_lanes r.0 _ put took r.1.1 k) le begins more (same_open r.0 _ r.1.1 within) r.2 all
+  lanes_grow (Began ∷ acts) h h' put took k le begins more within r all = lanes_grow acts r.0 h' put took (same_lanes r.0 _ put took r.1.1 k) le begins more (same_open r.0 _ r.1.1 within) r.2 all
+  lanes_grow (Moved homes ∷ acts) h h' put took k le begins more within r all = lanes_grow acts r.0 h' put took (same_lanes r.0 _ put took r.1.1 k) le begins more (same_open r.0 _ r.1.1 within) r.2 all
+  lanes_grow (Store a ∷ acts) h h' put took k le begins more within r all = lanes_grow acts r.0 h' put took (same_lanes r.0 _ put took r.1.1 k) le begins more (same_open r.0 _ r.1.1 within) r.2 all
+  lanes_grow (Connection (Opened c) ∷ acts) h h' put took k le begins more within r all = lanes_grow acts r.0 h' put took (same_lanes r.0 _ put took r.1.1 k) le begins more (same_open r.0 _ r.1.1 within) r.2 all
+  lanes_grow (Connection (Fed c piece) ∷ acts) h h' put took k le begins more within r all = lanes_grow acts r.0 h' put took (same_lanes r.0 _ put took r.1.1 k) le begins more (same_open r.0 _ r.1.1 within) r.2 all
+  lanes_grow (Connection (Accepted c client) ∷ acts) h h' put took k le begins more within r all = lanes_grow acts r.0 h' put took (same_lanes r.0 _ put took r.1.1 k) le begins more (same_open r.0 _ r.1.1 within) r.2 all
+  lanes_grow (Connection (Roomed c bytes) ∷ acts) h h' put took k le begins more within r all = lanes_grow acts r.0 h' put took (same_lanes r.0 _ put took r.1.1 k) le begins more (same_open r.0 _ r.1.1 within) r.2 all
+  lanes_grow (Connection (Closed c) ∷ acts) h h' put took k le begins more within r all = lanes_grow acts r.0 h' put took (same_lanes r.0 _ put took r.1.1 k) le begins more (same_open r.0 _ r.1.1 within) r.2 all
+  lanes_grow (Session (Begun client) ∷ acts) h h' put took k le begins more within r all = lanes_grow acts r.0 h' put took (same_lanes r.0 _ put took r.1.1 k) le begins more (same_open r.0 _ r.1.1 within) r.2 all
+  lanes_grow (Session (Called s) ∷ acts) h h' put took k le begins more within r all = lanes_grow acts r.0 h' put took (same_lanes r.0 _ put took r.1.1 k) le begins more (same_open r.0 _ r.1.1 within) r.2 all
+  lanes_grow (Session (Over client) ∷ acts) h h' put took k le begins more within r all = lanes_grow acts r.0 h' put took (same_lanes r.0 _ put took r.1.1 k) le begins more (same_open r.0 _ r.1.1 within) r.2 all
+  lanes_grow (Out o ∷ acts) h h' put took k le begins more within r all = lanes_grow acts r.0 h' put took (same_lanes r.0 _ put took r.1.1 k) le begins more (same_open r.0 _ r.1.1 within) r.2 all
+  lanes_grow (Named number ∷ acts) h h' put took k le begins more within r all = lanes_grow acts r.0 h' put took (same_lanes r.0 _ put took r.1.1 k) le begins more (same_open r.0 _ r.1.1 within) r.2 all
+  lanes_grow (Acknowledged client packet at grants offers ∷ acts) h h' put took k le begins more within r all = lanes_grow acts r.0 h' put took (same_lanes r.0 _ put took r.1.1 k) le begins more (same_open r.0 _ r.1.1 within) r.2 all
+  lanes_grow (Passed m copies lost routes ∷ acts) h h' put took k le begins more within r all = lanes_grow acts r.0 h' put took (same_lanes r.0 _ put took r.1.1 k) le begins more (same_open r.0 _ r.1.1 within) r.2 all
+  lanes_grow (Dropped ∷ acts) h h' put took k le begins more within r all = lanes_grow acts r.0 h' put took (same_lanes r.0 _ put took r.1.1 k) le begins more (same_open r.0 _ r.1.1 within) r.2 all
+  lanes_grow (Bridge (Believed peer dots) ∷ acts) h h' put took k le begins more within r all = lanes_grow acts r.0 h' put took (same_lanes r.0 _ put took r.1.1 k) le begins more (same_open r.0 _ r.1.1 within) r.2 all.1
+  lanes_grow (Bridge (Cleared peer) ∷ acts) h h' put took k le begins more within r all =
+      lanes_grow acts r.0 h' put took (same_lanes r.0 _ put took r.1.1 k) le begins more (same_open r.0 _ r.1.1 (λ j. within_gone h.bridge.openings peer j (length (others j)) (within j))) r.2 all
+  lanes_grow (Bridge (Left_out what) ∷ acts) h h' put took k le begins more within r all = lanes_grow acts r.0 h' put took (same_lanes r.0 _ put took r.1.1 k) le begins more (same_open r.0 _ r.1.1 within) r.2 all
+  lanes_grow (Bridge (Gave f) ∷ acts) h h' put took k le begins more within r all =
+      given_grow h h' put took f acts k r.1.0.from r.1.0.carries (lanes_grow acts r.0 h' put took (same_lanes r.0 _ put took r.1.1 k) le begins more (same_open r.0 _ r.1.1 within) r.2 all)
+  lanes_grow (Bridge (Put peer m) ∷ acts) h h' put took k le begins more within r all =
       let does : DoesLane h.bridge.lanes (PutInto peer m) r.0.bridge.lanes = (queued_lane h.bridge peer r.1.0.0 r.1.0.1, ap (λ (v : HeldView). v.bridge.lanes) r.1.1) in
       let kept = act_keeps h.bridge.lanes r.0.bridge.lanes put took others puts (PutInto peer m) k le tt does in
       grown_on h r.0 h' put took (Put peer m) acts k le begins
       (lanes_grow acts r.0 h' (put' h r.0 h' put took (Put peer m) acts k le begins) (took' h r.0 h' put took (Put peer m) acts k le begins) kept (le' h r.0 h' put took (Put peer m) acts k le begins)
-      (act_begins h.bridge.lanes r.0.bridge.lanes put took others puts (PutInto peer m) k tt does begins) (more' h r.0 h' put took (Put peer m) acts k le begins more) (same_open r.0 _ r.1.1 open) r.2 all) refl
-  lanes_grow (Bridge (Took peer number m copies lost) ∷ acts) h h' put took k le begins more open r all =
+      (act_begins h.bridge.lanes r.0.bridge.lanes put took others puts (PutInto peer m) k tt does begins) (more' h r.0 h' put took (Put peer m) acts k le begins more) (same_open r.0 _ r.1.1 within) r.2 all) refl
+  lanes_grow (Bridge (Took peer number m copies lost) ∷ acts) h h' put took k le begins more within r all =
       let x = next_lane h.bridge peer number r.1.0.0 in
       let does : DoesLane h.bridge.lanes (TookOf peer number m) r.0.bridge.lanes = (x.0, x.1, ap (λ (v : HeldView). v.bridge.lanes) r.1.1) in
       let kept = act_keeps h.bridge.lanes r.0.bridge.lanes put took others puts (TookOf peer number m) k le all.0 does in
       grown_on h r.0 h' put took (Took peer number m copies lost) acts k le begins
       (lanes_grow acts r.0 h' (put' h r.0 h' put took (Took peer number m copies lost) acts k le begins) (took' h r.0 h' put took (Took peer number m copies lost) acts k le begins) kept (le' h r.0 h' put took (Took peer number m copies lost) acts k le begins)
-      (act_begins h.bridge.lanes r.0.bridge.lanes put took others puts (TookOf peer number m) k all.0 does begins) (more' h r.0 h' put took (Took peer number m copies lost) acts k le begins more) (same_open r.0 _ r.1.1 open) r.2 all.1) refl
-  lanes_grow (Bridge (Got peer number) ∷ acts) h h' put took k le begins more open r all = elim (cases_lt peer (length h.bridge.lanes)) [
+      (act_begins h.bridge.lanes r.0.bridge.lanes put took others puts (TookOf peer number m) k all.0 does begins) (more' h r.0 h' put took (Took peer number m copies lost) acts k le begins more) (same_open r.0 _ r.1.1 within) r.2 all.1) refl
+  lanes_grow (Bridge (Got peer number) ∷ acts) h h' put took k le begins more within r all = elim (cases_lt peer (length h.bridge.lanes)) [
     | inl below ↦ (
         let does : DoesLane h.bridge.lanes (GotBy peer number) r.0.bridge.lanes = (below, ap (λ (v : HeldView). v.bridge.lanes) r.1.1) in
         let kept = act_keeps h.bridge.lanes r.0.bridge.lanes put took others puts (GotBy peer number) k le all.0 does in
         grown_on h r.0 h' put took (Got peer number) acts k le begins
         (lanes_grow acts r.0 h' (put' h r.0 h' put took (Got peer number) acts k le begins) (took' h r.0 h' put took (Got peer number) acts k le begins) kept (le' h r.0 h' put took (Got peer number) acts k le begins)
-        (act_begins h.bridge.lanes r.0.bridge.lanes put took others puts (GotBy peer number) k all.0 does begins) (more' h r.0 h' put took (Got peer number) acts k le begins more) (same_open r.0 _ r.1.1 open) r.2 all.1) refl)
+        (act_begins h.bridge.lanes r.0.bridge.lanes put took others puts (GotBy peer number) k all.0 does begins) (more' h r.0 h' put took (Got peer number) acts k le begins more) (same_open r.0 _ r.1.1 within) r.2 all.1) refl)
     | inr past ↦ lanes_grow acts r.0 h' put took
-        (subst (λ (l : Lanes Forward). AreKept l put took others) (sym (ap (λ (v : HeldView). v.bridge.lanes) r.1.1 ∙ set_past h.bridge.lanes peer (with_got number (lane_of h.bridge.lanes peer)) past)) k) le begins more (same_open r.0 _ r.1.1 open) r.2 all.1
+        (subst (λ (l : Lanes Forward). AreKept l put took others) (sym (ap (λ (v : HeldView). v.bridge.lanes) r.1.1 ∙ set_past h.bridge.lanes peer (with_got number (lane_of h.bridge.lanes peer)) past)) k) le begins more (same_open r.0 _ r.1.1 within) r.2 all.1
   ]
-  lanes_grow (Bridge (Greeted peer g) ∷ acts) h h' put took k le begins more open r all = elim (cases_lt peer (length h.bridge.lanes)) [
+  lanes_grow (Bridge (Greeted peer g) ∷ acts) h h' put took k le begins more within r all = elim (cases_lt peer (length h.bridge.lanes)) [
     | inl below ↦ (
-        let does : DoesLane h.bridge.lanes (GotBy peer g.took) r.0.bridge.lanes = (below, ap (λ (v : HeldView). v.bridge.lanes) r.1.1 ∙ ap (set h.bridge.lanes peer) (as_got h put took peer g k more open all.0)) in
+        let does : DoesLane h.bridge.lanes (GotBy peer g.took) r.0.bridge.lanes = (below, ap (λ (v : HeldView). v.bridge.lanes) r.1.1 ∙ ap (set h.bridge.lanes peer) (as_got h put took peer g k more within all.0)) in
         let kept = act_keeps h.bridge.lanes r.0.bridge.lanes put took others puts (GotBy peer g.took) k le all.0.0 does in
         grown_on h r.0 h' put took (Greeted peer g) acts k le begins
         (lanes_grow acts r.0 h' (put' h r.0 h' put took (Greeted peer g) acts k le begins) (took' h r.0 h' put took (Greeted peer g) acts k le begins) kept (le' h r.0 h' put took (Greeted peer g) acts k le begins)
-        (act_begins h.bridge.lanes r.0.bridge.lanes put took others puts (GotBy peer g.took) k all.0.0 does begins) (more' h r.0 h' put took (Greeted peer g) acts k le begins more) (same_open r.0 _ r.1.1 (λ j. within_gone h.bridge.openings peer j (length (others j)) (open j))) r.2 all.1) refl)
+        (act_begins h.bridge.lanes r.0.bridge.lanes put took others puts (GotBy peer g.took) k all.0.0 does begins) (more' h r.0 h' put took (Greeted peer g) acts k le begins more) (same_open r.0 _ r.1.1 (λ j. within_gone h.bridge.openings peer j (length (others j)) (within j))) r.2 all.1) refl)
     | inr past ↦ lanes_grow acts r.0 h' put took
-        (subst (λ (l : Lanes Forward). AreKept l put took others) (sym (ap (λ (v : HeldView). v.bridge.lanes) r.1.1 ∙ set_past h.bridge.lanes peer (with_greeted (opening_of h.bridge peer) g.gone g.took (lane_of h.bridge.lanes peer)) past)) k) le begins more (same_open r.0 _ r.1.1 (λ j. within_gone h.bridge.openings peer j (length (others j)) (open j))) r.2 all.1
+        (subst (λ (l : Lanes Forward). AreKept l put took others) (sym (ap (λ (v : HeldView). v.bridge.lanes) r.1.1 ∙ set_past h.bridge.lanes peer (with_greeted (opening_of h.bridge peer) g.gone g.took (lane_of h.bridge.lanes peer)) past)) k) le begins more (same_open r.0 _ r.1.1 (λ j. within_gone h.bridge.openings peer j (length (others j)) (within j))) r.2 all.1
   ]
