@@ -4,7 +4,7 @@ ghost use Rattle.std.specs.Prelude.{◌≡◌, ◌<◌, ◌++◌, ◌∷◌, Lis
 ghost use Rattle.std.specs.Ordering.{is_eq};
 ghost use Rattle.row_store.specs.Leading.{IsNamed, key_in};
 ghost use Rattle.row_store.specs.Rows.{key_cmp};
-ghost use Rattle.row_journal.specs.Repeats.{AreMarked, place_in, tail};
+ghost use Rattle.row_journal.specs.Repeats.{AreMarked, place_in, spread};
 ghost use Rattle.row_store.specs.declared.row.Change.{Change as Changed};
 ghost use Rattle.row_journal.specs.Tops.{IsIdle, Leaves, Tops as AnyTops};
 
@@ -15,7 +15,7 @@ use std::alloc::{AllocError, Global};
 use std::mem;
 
 /// How many places there are for rows.
-const PLACES: usize = 16_384;
+const PLACES: usize = 65_521;
 
 /// No change.
 const NONE: usize = usize::MAX;
@@ -43,33 +43,26 @@ fn is_same_row(one: &Change, other: &Change) -> bool
         .is_eq()
 }
 
-fn byte_at(bytes: &[u8], at: usize) -> usize
-    ensures is { result ≡ get_or bytes.now at 0 }
-    ensures byte { result < 256 }
+/// A place that these bytes lead to from another one.
+fn spread(place: usize, bytes: &[u8]) -> usize
+    requires { place < 65521 }
+    ensures is { result ≡ spread place bytes.now }
+    ensures within { result < 65521 }
 {
-    if at < bytes.len() {
-        usize::from(bytes[at])
-    } else {
-        0
+    let mut at = place;
+    for byte in bytes {
+        at = (at * 31 + usize::from(*byte)) % PLACES;
     }
-}
-
-/// The number that the last two bytes spell.
-fn tail(bytes: &[u8]) -> usize
-    ensures is { result ≡ tail bytes.now }
-    ensures small { result < 65536 }
-{
-    let len = bytes.len();
-    byte_at(bytes, len.saturating_sub(2)) * 256 + byte_at(bytes, len.saturating_sub(1))
+    at
 }
 
 /// The place of the row of a change. Few other rows have the same one.
 fn place_of(change: &Change) -> usize
     ensures is { result ≡ place_in (key_in change.now) }
-    ensures within { result < 16384 }
+    ensures within { result < 65521 }
 {
     let (kind, owner, place) = key_of(change);
-    (usize::from(kind) + tail(owner) * 619 + tail(place)) % PLACES
+    spread(spread(usize::from(kind), owner), place)
 }
 
 /// Notes that this change was seen at a place, and for the one that was seen there before it how many stand between the two.
@@ -113,7 +106,7 @@ fn is_named_at(changes: &[Change], at: usize, change: &Change) -> bool
 
 /// Whether the change removes a row that isn't there, and none of those whose places are marked names it.
 fn is_spare(alloc: Global, tops: &Tops, change: &Change, marks: &[u8]) -> Result<bool, AllocError>
-    requires { length marks.now ≡ 16384 }
+    requires { length marks.now ≡ 65521 }
     ensures { IfOk result (λ spare. IsTrue spare → IsIdle tops.now.entries change.now × (get_or marks.now (place_in (key_in change.now)) 0 ≡ 0)) }
 {
     let place = place_of(change);
@@ -131,9 +124,9 @@ fn push_marked(
     marks: &mut [u8],
     out: &mut Vec<Change>,
 ) -> Result<(), AllocError>
-    requires places { length marks.old ≡ 16384 }
+    requires places { length marks.old ≡ 65521 }
     requires marked { AreMarked marks.old out.old.items }
-    ensures places { length marks.new ≡ 16384 }
+    ensures places { length marks.new ≡ 65521 }
     ensures marked { OnOk result (AreMarked marks.new out.new.items) }
     ensures leaves { (tops : AnyTops) (behind : List Changed) → OnOk result (Leaves tops (out.new.items ++ behind) (out.old.items ++ change.now ∷ behind)) }
 {
@@ -155,9 +148,9 @@ fn push_unless(
     marks: &mut [u8],
     out: &mut Vec<Change>,
 ) -> Result<(), AllocError>
-    requires places { length marks.old ≡ 16384 }
+    requires places { length marks.old ≡ 65521 }
     requires marked { AreMarked marks.old out.old.items }
-    ensures places { length marks.new ≡ 16384 }
+    ensures places { length marks.new ≡ 65521 }
     ensures marked { OnOk result (AreMarked marks.new out.new.items) }
     ensures leaves { OnOk result (Leaves tops.now.entries (out.new.items ++ behind.now) (out.old.items ++ change.now ∷ behind.now)) }
 {

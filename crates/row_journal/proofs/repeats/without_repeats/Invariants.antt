@@ -5,7 +5,7 @@ use Rattle.row_journal.proofs.repeats.without_repeats.Given as goal
 
 abbrev pub invariant-loop-i : goal.invariant-loop-i
 invariant-loop-i l = record {
-  places : length l.marks.items ≡ 16384;
+  places : length l.marks.items ≡ 65521;
   marked : AreMarked l.marks.items l.out.items;
   leaves : Leaves l.tops.entries (l.out.items ++ drop l.i l.changes) l.changes;
 }
