@@ -1,4 +1,4 @@
-//! Users and what they may do, before what stands behind sockets: who isn't let in leaves no trace, and what may not be done is answered in its place.
+//! Users and what they may do, before what stands behind sockets: no CONNECT of a client that isn't let in is handed on, and what may not be done is answered in its place.
 #![tactic(auto)]
 
 mod answer;
