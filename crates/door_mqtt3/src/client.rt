@@ -1,9 +1,9 @@
 //! A client of a version before 5, and what it sends.
 
-ghost use Rattle.std.specs.Prelude.{◌≡◌, ◌≤◌, ◌++◌, [], ◌∷◌, IfOk, OnOk, length, drop, take};
-ghost use Rattle.door_mqtt3.specs.Client.{come, come_on, done_with, fault_bytes, fresh, handed, halts, has_room, is_disconnect, opened_by, opened_with, over, overrun, overtakes, received, rejected, waits, walk, went_on, withheld};
+ghost use Rattle.std.specs.Prelude.{◌≡◌, ◌≤◌, ◌++◌, [], ◌∷◌, IfOk, MatchOption, OnOk, length, drop, take};
+ghost use Rattle.door_mqtt3.specs.Client.{come, come_on, done_with, fault_bytes, fresh, handed, halts, has_room, is_disconnect, opened_at, opened_by, opened_with, over, overrun, overtakes, received, rejected, waits, walk, went_on, withheld};
 ghost use Rattle.door_mqtt3.specs.Client.Notice.{Asks, Faults};
-ghost use Rattle.door_mqtt3.specs.Doing.{Appends, IsOutcome, IsTaken, IsToldBy, IsWalk};
+ghost use Rattle.door_mqtt3.specs.Doing.{Appends, IsDone, IsOutcome, IsPassing, IsTaken, IsToldBy, IsUntouched, IsWalk};
 
 use crate::asked::{asked, is_refused};
 use crate::exchanges::OpenExchanges;
@@ -11,7 +11,7 @@ use crate::held::HeldBytes;
 use crate::taken::Taken;
 use mqtt_fields::{LONGEST_PACKET, MOST_EXCHANGES, NoMemory, Qos};
 use mqtt_packets::{Bytes, Packet, PacketFault};
-use mqtt3_packets::{Level, read_packet};
+use mqtt3_packets::{Level, read_packet, widen_publish_at};
 use std::alloc::Global;
 use std::mem;
 
@@ -75,15 +75,22 @@ fn is_disconnect(packet: &Packet) -> bool
     }
 }
 
+/// The identifier of the exchange at QoS 2 that a PUBLISH with this QoS and this identifier begins.
+fn opened_at(qos: Qos, identifier: u16) -> Option<u16>
+    ensures { result ≡ opened_at qos identifier }
+{
+    match qos {
+        Qos::ExactlyOnce => Some(identifier),
+        _ => None,
+    }
+}
+
 /// The identifier of the exchange at QoS 2 that a packet begins.
 fn opened_by(packet: &Packet) -> Option<u16>
     ensures { result ≡ opened_by packet.now }
 {
     match packet {
-        Packet::Publish(publish) => match publish.qos {
-            Qos::ExactlyOnce => Some(publish.identifier),
-            _ => None,
-        },
+        Packet::Publish(publish) => opened_at(publish.qos, publish.identifier),
         _ => None,
     }
 }
@@ -275,6 +282,68 @@ impl Client {
         }
     }
 
+    /// Hands on the PUBLISH in front of these bytes, which isn't read, and answers how many bytes it takes. `None`, and nothing is done, where no whole and
+    /// right one stands there, and where a PUBLISH may have to wait.
+    fn hand_publish(&mut self, bytes: &[u8], taken: &mut Taken) -> Result<Option<usize>, NoMemory>
+        ensures { IfOk result (λ o. MatchOption o (IsUntouched self.old self.new taken.old taken.new) (λ used. (order : Order) → IsDone order bytes.now used self.old self.new taken.old taken.new)) }
+    {
+        if self.held.len() != 0 || !self.has_room() {
+            return Ok(None);
+        }
+        match widen_publish_at(LONGEST_PACKET, bytes, &mut taken.told)? {
+            None => Ok(None),
+            Some(publish) => {
+                self.note(opened_at(publish.qos, publish.identifier))?;
+                Ok(Some(publish.used))
+            }
+        }
+    }
+
+    /// Reads the packet in front of these bytes, takes it or hands it on, and answers how many bytes it takes; `None` where no whole one stands there, or
+    /// a fault, which is told.
+    fn pass_read(
+        &mut self,
+        alloc: Global,
+        order: Order,
+        bytes: &[u8],
+        taken: &mut Taken,
+    ) -> Result<Option<usize>, NoMemory>
+        ensures { IfOk result (λ o. IsPassing order bytes.now self.old self.new taken.old taken.new o) }
+    {
+        match read_packet(alloc, self.level, LONGEST_PACKET, bytes) {
+            Ok(Some((packet, used))) => {
+                self.pass(alloc, order, packet, &bytes[..used], taken)?;
+                Ok(Some(used))
+            }
+            Ok(None) => Ok(None),
+            Err(fault) => match fault {
+                PacketFault::NoMemory => Err(NoMemory),
+                _ => {
+                    self.ended = true;
+                    put_fault(fault, &mut taken.told)?;
+                    Ok(None)
+                }
+            },
+        }
+    }
+
+    /// Takes the packet in front of these bytes, or hands it on, and answers how many bytes it takes; `None` where no whole one stands there, or a fault,
+    /// which is told.
+    fn pass_next(
+        &mut self,
+        alloc: Global,
+        order: Order,
+        bytes: &[u8],
+        taken: &mut Taken,
+    ) -> Result<Option<usize>, NoMemory>
+        ensures { IfOk result (λ o. IsPassing order bytes.now self.old self.new taken.old taken.new o) }
+    {
+        match self.hand_publish(bytes, taken)? {
+            Some(used) => Ok(Some(used)),
+            None => self.pass_read(alloc, order, bytes, taken),
+        }
+    }
+
     /// Goes through the whole packets of these bytes, and answers how many bytes they take.
     fn walk(
         &mut self,
@@ -291,20 +360,9 @@ impl Client {
             if self.halts(order) {
                 return Ok(bytes.len() - rest.len());
             }
-            match read_packet(alloc, self.level, LONGEST_PACKET, rest) {
-                Ok(Some((packet, used))) => {
-                    self.pass(alloc, order, packet, &rest[..used], taken)?;
-                    rest = after(rest, used);
-                }
-                Ok(None) => return Ok(bytes.len() - rest.len()),
-                Err(fault) => match fault {
-                    PacketFault::NoMemory => return Err(NoMemory),
-                    _ => {
-                        self.ended = true;
-                        put_fault(fault, &mut taken.told)?;
-                        return Ok(bytes.len() - rest.len());
-                    }
-                },
+            match self.pass_next(alloc, order, rest, taken)? {
+                Some(used) => rest = after(rest, used),
+                None => return Ok(bytes.len() - rest.len()),
             }
         }
         Ok(bytes.len() - rest.len())

@@ -47,7 +47,7 @@ unfolding head_at head_of
 flags_are b f three e = rw (three, flags_same (b % 16) (level_of (b % 16 / 2 % 4)) f e) refl
 
 -- what stands before a rest
-front_is : (bs a r b s : List ℕ) → bs ≡ a ++ r → r ≡ b ++ s → take (length bs - length s) bs ≡ a ++ b
+pub front_is : (bs a r b s : List ℕ) → bs ≡ a ++ r → r ≡ b ++ s → take (length bs - length s) bs ≡ a ++ b
 front_is bs a r b s one two =
     let whole : bs ≡ (a ++ b) ++ s = one ∙ ap (λ (xs : List ℕ). a ++ xs) two ∙ sym (append_assoc a b s) in
     let len : length bs ≡ length (a ++ b) + length s = ap length whole ∙ length-append (a ++ b) s in
@@ -57,7 +57,7 @@ front_is bs a r b s one two =
 abbrev IsRead : PublishFlags → List ℕ → List ℕ × List ℕ → Type 0
 IsRead f bs x = IsMadeOf f bs x.0 x.1
 
-abbrev flags : Bool → Qos → Bool → PublishFlags
+abbrev pub flags : Bool → Qos → Bool → PublishFlags
 flags d q r = record { dup = d; qos = q; retain = r }
 
 abbrev made : Bool → Qos → Bool → List ℕ → ℕ → List Property → List ℕ → Publish
@@ -110,10 +110,10 @@ found_of f bs x e =
     let g = guard_passed (is_valid_with f t.0.0 i.0.0 p.0.0) ProtocolError (take (length bs - length i.0.1) bs, p.0.1) x p.2 in
     record { topic = t.0.0; between = t.0.1; identifier = i.0.0; rest = i.0.1; properties_are = p.0.0; payload = p.0.1; topic_is = t.1; identifier_is = i.1; properties_at = p.1; valid = g.0; same = g.1 }
 
-topic_takes : (bs topic rest : List ℕ) → IsBytes bs → field_at text bs ≡ Ok (topic, rest) → bs ≡ text.bytes topic ++ rest
+pub topic_takes : (bs topic rest : List ℕ) → IsBytes bs → field_at text bs ≡ Ok (topic, rest) → bs ≡ text.bytes topic ++ rest
 topic_takes bs topic rest fits e = (text_is.takes bs (topic, rest) fits (field_ok (text.at bs) (topic, rest) e)).0
 
-number_takes : (bs : List ℕ) (n : ℕ) (rest : List ℕ) → IsBytes bs → field_at (number w16) bs ≡ Ok (n, rest) → bs ≡ to_be_bytes w16 n ++ rest
+pub number_takes : (bs : List ℕ) (n : ℕ) (rest : List ℕ) → IsBytes bs → field_at (number w16) bs ≡ Ok (n, rest) → bs ≡ to_be_bytes w16 n ++ rest
 number_takes bs n rest fits e = ((number_is w16 wide16).takes bs (n, rest) fits (field_ok ((number w16).at bs) (n, rest) e)).0
 
 sent_same : (first : ℕ) (bs topic identifier between rest payload : List ℕ) → bs ≡ text.bytes topic ++ between → between ≡ identifier ++ rest

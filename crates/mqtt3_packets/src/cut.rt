@@ -1,60 +1,20 @@
 //! A PUBLISH of MQTT 5.0 without its properties, by where its parts stand.
 
-ghost use Rattle.std.specs.Prelude.{◌≡◌, ◌≤◌, ◌++◌, length, IfOk, IfSome, MatchOption, OnOk, Some};
+ghost use Rattle.std.specs.Prelude.{◌≡◌, ◌++◌, IfOk, MatchOption, OnOk};
 ghost use Rattle.mqtt_fields.specs.declared.table.Place.TheVariants as places;
 ghost use Rattle.mqtt_fields.specs.Block.{properties};
 ghost use Rattle.mqtt_fields.specs.Identifier.{topic_alias};
-ghost use Rattle.mqtt_fields.specs.Numbers.{is_text, text};
-ghost use Rattle.mqtt_packets.specs.declared.packet.Packet.TheVariants as packets;
-ghost use Rattle.mqtt_packets.specs.Head.{head_at};
-ghost use Rattle.mqtt_packets.specs.Packet.{head_of};
 ghost use Rattle.mqtt_packets.specs.Reading.{Gives, field_at};
 ghost use Rattle.mqtt_packets.specs.Values.{has};
-ghost use Rattle.mqtt3_packets.specs.Cut.{HasBody, IsMadeOf, IsPassed, begun, has_no_zero, identifier_at, is_valid_with, parts_at};
+ghost use Rattle.mqtt3_packets.specs.Cut.{IsMadeOf, IsPassed, is_valid_with, parts_at};
 ghost use Rattle.mqtt3_packets.specs.Written.{framed};
 
+use crate::front::{body_at, take_identifier, take_topic};
 use crate::publish::PublishFlags;
 use mqtt_fields::identifier::TOPIC_ALIAS;
-use mqtt_fields::{NoMemory, Place, Properties, Property, Vbi, read_properties, vbi_at, vbi_len};
+use mqtt_fields::{NoMemory, Place, Properties, Property, Vbi, read_properties, vbi_len};
 use mqtt_packets::{PacketFault, are_valid};
 use std::alloc::Global;
-
-fn has_no_zero(bytes: &[u8]) -> bool
-    ensures { result ≡ has_no_zero bytes.now }
-{
-    bytes.iter().all(|b| *b != 0)
-}
-
-/// Whether the bytes are those of a string (MQTT 5.0, 1.5.4).
-#[tactic(auto, using(mqtt_fields::proofs::TextLaws::texts))]
-fn is_text(bytes: &[u8]) -> bool
-    ensures { result ≡ is_text bytes.now }
-{
-    match str::from_utf8(bytes) {
-        Ok(_) => has_no_zero(bytes),
-        Err(_) => false,
-    }
-}
-
-/// The string at the front, where it lies, and the bytes after it.
-fn take_topic(bytes: &[u8]) -> Result<(&[u8], &[u8]), PacketFault>
-    ensures exact { Gives (λ x. (x.0.now, x.1.now)) result (field_at text bytes.now) }
-    ensures rest { IfOk result (λ x. length x.1.now ≤ length bytes.now) }
-{
-    if bytes.len() < 2 {
-        return Err(PacketFault::Malformed);
-    }
-    let (front, rest) = bytes.split_at(2);
-    let len = u16::from_be_bytes([front[0], front[1]]) as usize;
-    if rest.len() < len {
-        return Err(PacketFault::Malformed);
-    }
-    let (topic, rest) = rest.split_at(len);
-    if !is_text(topic) {
-        return Err(PacketFault::Malformed);
-    }
-    Ok((topic, rest))
-}
 
 /// Whether there is a Topic Alias.
 fn has_alias(properties: &[Property]) -> bool
@@ -70,21 +30,6 @@ fn is_valid(flags: PublishFlags, topic: &[u8], identifier: u16, properties: &[Pr
     (!flags.has_identifier() || identifier != 0)
         && are_valid(properties)
         && (!topic.is_empty() || has_alias(properties))
-}
-
-/// The identifier at the front, if one stands there, and the bytes after it.
-fn take_identifier(flags: PublishFlags, bytes: &[u8]) -> Result<(u16, &[u8]), PacketFault>
-    ensures exact { Gives (λ x. (x.0, x.1.now)) result (identifier_at flags bytes.now) }
-    ensures rest { IfOk result (λ x. length x.1.now ≤ length bytes.now) }
-{
-    if !flags.has_identifier() {
-        return Ok((0, bytes));
-    }
-    if bytes.len() < 2 {
-        return Err(PacketFault::Malformed);
-    }
-    let (front, rest) = bytes.split_at(2);
-    Ok((u16::from_be_bytes([front[0], front[1]]), rest))
 }
 
 #[tactic(auto, using(mqtt_packets::proofs::Lifts::lifted))]
@@ -116,39 +61,6 @@ fn cut_of(alloc: Global, flags: PublishFlags, bytes: &[u8]) -> Result<(&[u8], &[
     match parts_of(alloc, flags, bytes) {
         Ok((front, payload)) => Ok((front, payload)),
         Err(fault) => Err(fault),
-    }
-}
-
-/// What the first byte of a PUBLISH says; `None` where no PUBLISH begins so.
-#[tactic(auto, using(crate::proofs::CutLaws::flags_are), unfolding(mqtt_packets::specs::Head::head_at))]
-fn flags_of(first: u8) -> Option<PublishFlags>
-    ensures { IfSome result (λ flags. head_at first ≡ Some (head_of (packets.Publish (begun flags)))) }
-{
-    if first / 16 != 3 {
-        return None;
-    }
-    PublishFlags::of(first % 16)
-}
-
-/// What the first byte of a PUBLISH in front says, its body, and what follows it; `None` where no whole one stands there.
-fn body_at(bytes: &[u8]) -> Option<(PublishFlags, &[u8], &[u8])>
-    ensures body { IfSome result (λ x. HasBody bytes.now x.0 x.1.now x.2.now) }
-    ensures rest { IfSome result (λ x. length x.2.now ≤ length bytes.now) }
-{
-    match bytes {
-        [] => None,
-        [first, rest @ ..] => {
-            let flags = flags_of(*first)?;
-            let Ok((len, rest)) = vbi_at(rest) else {
-                return None;
-            };
-            let len = len as usize;
-            if rest.len() < len {
-                return None;
-            }
-            let (body, rest) = rest.split_at(len);
-            Some((flags, body, rest))
-        }
     }
 }
 

@@ -30,3 +30,5 @@ mod pieces;
 mod recorder;
 #[cfg(test)]
 mod user_files;
+#[cfg(test)]
+mod widths;

@@ -58,6 +58,9 @@ impl Recorder {
         let mut outputs = Vec::new(self.alloc);
         let mut rest = bytes;
         for _ in 0..bytes.len() {
+            if rest.is_empty() {
+                return Ok(outputs);
+            }
             let (packet, more) = rest.split_at(size_of(rest));
             if let Some(output) = self.answer_to(connection, packet)? {
                 self.keep(&output)?;
