@@ -1,18 +1,18 @@
 #!/usr/bin/env bash
-# Runs three nodes behind HAProxy, which passes each client on to its home (examples/balancer.py), at one address with TLS and without. Clients with
-# prefixes, with identifiers that a node gave, and with any others connect there; one node is killed; then the home of some clients moves by a new
-# table. Prints what came of it, and exits 1 where a client isn't served at its home.
+# Runs three nodes behind HAProxy, which passes each client on to its home (`broker balancer`, examples/balancer.cfg), at one address with TLS and without. Clients
+# with prefixes, with identifiers that a node gave, without an identifier and with any others connect there; one node is killed; then the home of some clients moves
+# by a new table. Prints what came of it, and exits 1 where a client isn't served at its home.
 #
 #   examples/balancer.sh             runs the program that ./build has built
-#   examples/balancer.sh PROGRAM..   runs these words in its place, with `run CONFIG NODE DATABASE --mqtt3` behind them
+#   examples/balancer.sh PROGRAM..   runs these words in its place, with `run CONFIG NODE DATABASE --mqtt3` or `balancer CONFIG` behind them
 #
-# It needs haproxy, openssl, python3 and mosquitto's clients: apt-get install haproxy openssl mosquitto-clients. The ports 1880, 1883 to 1885, 2883 to 2885 and
-# 8880 must be free.
+# It needs haproxy, openssl and mosquitto's clients: apt-get install haproxy openssl mosquitto-clients. The ports 1880, 1883 to 1885, 2883 to 2885 and
+# 8883 must be free.
 set -eu
 
 source "$(dirname "${BASH_SOURCE[0]}")/nodes.sh"
 run_by "$@"
-need haproxy openssl python3 mosquitto_pub mosquitto_sub
+need haproxy openssl mosquitto_pub mosquitto_sub
 options=(--mqtt3)
 
 # The table of this version, by which `m` has its home at this node.
@@ -21,7 +21,7 @@ write_table() {
 }
 
 balance() {
-    "$top/examples/balancer.py" "$work/$1.toml" "$work" --port 1880 --tls 8880 "$work/both.pem"
+    "${program[@]}" balancer "$work/$1.toml" > "$work/homes.cfg"
 }
 
 # Connects as this client by this version of MQTT, and publishes.
@@ -30,7 +30,17 @@ served() {
 }
 
 served_by_tls() {
-    timeout 20 mosquitto_pub -V mqttv5 --cafile "$work/cert.pem" --insecure -h "$host" -p 8880 -i "$1" -q 1 -t seen -m "$1" 2> "$work/refused"
+    timeout 20 mosquitto_pub -V mqttv5 --cafile "$work/cert.pem" --insecure -h "$host" -p 8883 -i "$1" -q 1 -t seen -m "$1" 2> "$work/refused"
+}
+
+# Counts how many of three clients without an identifier are served: each by some node, which gives it one.
+count_without() {
+    local good=0
+    for _ in 1 2 3; do
+        timeout 20 mosquitto_pub -V mqttv311 -h "$host" -p 1880 -q 1 -t seen -m 'no name' 2> "$work/refused" && good=$((good + 1)) || cat "$work/refused"
+    done
+    echo "without an identifier: $good of 3 are served"
+    [ "$good" -eq 3 ] || failed=1
 }
 
 # Counts which of the clients after the first word are served; the first is how they connect.
@@ -56,7 +66,7 @@ for node in n0 n1 n2; do
     start_node "$node" "$work/0.toml" "$work/$node.db"
 done
 balance 0
-haproxy -W -f "$work/haproxy.cfg" -p "$work/haproxy.pid" > "$work/haproxy" 2>&1 &
+PORT=1880 CERTIFICATE=$work/both.pem haproxy -W -f "$top/examples/balancer.cfg" -f "$work/homes.cfg" -p "$work/haproxy.pid" > "$work/haproxy" 2>&1 &
 for _ in $(seq 100); do
     ! served mqttv5 a-first || break
     sleep 0.1
@@ -79,12 +89,16 @@ wait "$listening" || true
 echo "across: $(cat "$work/across")"
 [ "$(cat "$work/across")" = 'from c to b' ] || failed=1
 
+count_without
+
 kill_node n1
 if served mqttv5 b-1; then
     echo 'n1 is down, and a client of n1 is served'
     failed=1
 fi
 count mqttv5 a-1 c-1 m-1
+sleep 8
+count_without
 start_node n1 "$work/0.toml" "$work/n1.db"
 count mqttv5 b-1
 

@@ -59,6 +59,14 @@ def of_what_was_left_out(left_out):
     }
 
 
+def of_what_was_not_allowed(not_allowed):
+    return {
+        "mqtt_publishes_refused_total": not_allowed["publishes"],
+        "mqtt_filters_refused_total": not_allowed["filters"],
+        "mqtt_messages_withheld_total": not_allowed["messages"],
+    }
+
+
 def of_codes(name, codes):
     """The values of a metric, one for each Reason Code that was given."""
     return {f'{name}{{code="0x{it["code"]:02X}"}}': it["count"] for it in codes}
@@ -79,6 +87,7 @@ def of_peer(peer):
 
 def wanted(figures):
     found = {**of_node(figures), **of_machine(figures), **of_what_was_left_out(figures["left_out"])}
+    found.update(of_what_was_not_allowed(figures["not_allowed"]))
     found.update(of_codes("mqtt_connections_refused_total", figures["refused"]))
     found.update(of_codes("mqtt_connections_ended_total", figures["ended"]))
     for peer in figures["peers"]:

@@ -13,7 +13,7 @@ use Rattle.clap.proofs.OnLiterals.{clap_on_literals}
 use Rattle.clap.proofs.WalkLemmas.{first_value-rows, one_text-rows}
 use Rattle.broker_command.specs.Line.{broker, IsFlag, IsNode, IsNumber, IsOf, IsRun, IsServe, IsTask}
 use Rattle.broker_command.specs.declared.task.Task.{Task}
-use Rattle.broker_command.specs.declared.task.Task.TheVariants.{Play, Loopback, Serve, Password, Check}
+use Rattle.broker_command.specs.declared.task.Task.TheVariants.{Play, Loopback, Serve, Password, Check, DropRows, Balancer}
 
 -- the program's commands are such that what a parse of words gives is stated exactly
 pub broker_is_simple : is_simple broker ≡ true
@@ -114,6 +114,8 @@ served_is rows (Some (Loopback script)) h = absurd h.2
 served_is rows (Some (Serve configuration node database turns most_clients connect_within limits users mqtt3 log status status_hosts listen bridge_listen)) h = inl (refl, h)
 served_is rows (Some (Check configuration node database)) h = absurd h.2
 served_is rows (Some (Password name)) h = absurd h.2
+served_is rows (Some (DropRows configuration node database session queue lane)) h = absurd h.2
+served_is rows (Some (Balancer configuration)) h = absurd h.2
 
 run_is : (rows : List Row) (o : Option Task) → IfSome o (IsRun rows) → IfSome o (IsOf (Some (codes "run", rows)))
 run_is rows None h = h
@@ -122,6 +124,8 @@ run_is rows (Some (Loopback script)) h = absurd h
 run_is rows (Some (Serve configuration node database turns most_clients connect_within limits users mqtt3 log status status_hosts listen bridge_listen)) h = inr (refl, h)
 run_is rows (Some (Check configuration node database)) h = absurd h
 run_is rows (Some (Password name)) h = absurd h
+run_is rows (Some (DropRows configuration node database session queue lane)) h = absurd h
+run_is rows (Some (Balancer configuration)) h = absurd h
 
 -- so a command's task is what the words ask for
 task_of_command : {E : Type 0} (P : List Row → Task → Type 0) (word : Text) (whole : (rows : List Row) (o : Option Task) → IfSome o (P rows) → IfSome o (IsOf (Some (word, rows))))

@@ -14,7 +14,7 @@ use Rattle.cli_stops.specs.declared.run_fault.RunFault.TheVariants.{NoMemory}
 use Rattle.broker_command.specs.declared.task.AskedLimits.{AskedLimits}
 use Rattle.broker_command.specs.declared.task.AskedUsers.{AskedUsers}
 use Rattle.broker_command.specs.declared.task.Task.{Task}
-use Rattle.broker_command.specs.declared.task.Task.TheVariants.{Play, Loopback, Serve, Password, Check}
+use Rattle.broker_command.specs.declared.task.Task.TheVariants.{Play, Loopback, Serve, Password, Check, DropRows, Balancer}
 
 -- an argument that has to be there, with one value
 abbrev pub word_rule : Text → Rule
@@ -148,11 +148,19 @@ check = node_words (codes "check")
 abbrev pub password : App
 password = with_rule (new_app (codes "password")) (word_rule (codes "NAME"))
 
--- the program's words: one of the six commands, without the program's name
+-- `drop CONFIG NODE DATABASE [--session CLIENT] [--queue CLIENT] [--lane NODE]`
+abbrev pub dropping : App
+dropping = with_rule (with_rule (with_rule (node_words (codes "drop")) (address_rule (codes "session"))) (address_rule (codes "queue"))) (address_rule (codes "lane"))
+
+-- `balancer CONFIG`
+abbrev pub balancer : App
+balancer = with_rule (new_app (codes "balancer")) (word_rule (codes "CONFIG"))
+
+-- the program's words: one of the eight commands, without the program's name
 unfoldable pub broker : App
-broker = with_subcommand (with_subcommand (with_subcommand (with_subcommand (with_subcommand (with_subcommand
+broker = with_subcommand (with_subcommand (with_subcommand (with_subcommand (with_subcommand (with_subcommand (with_subcommand (with_subcommand
     (on_top (λ s. record s { has_version = true; no_binary_name = true; subcommand_required = true }) (new_app (codes "broker")))
-    play.top) loopback.top) serve.top) run.top) check.top) password.top
+    play.top) loopback.top) serve.top) run.top) check.top) password.top) balancer.top) dropping.top
 
 -- the path of a script
 abbrev pub IsScript : List Row → String Global → Type 0
@@ -165,6 +173,8 @@ IsPlay rows (Loopback script) = ⊥
 IsPlay rows (Serve configuration node database turns most_clients connect_within limits users mqtt3 log status status_hosts listen bridge_listen) = ⊥
 IsPlay rows (Check configuration node database) = ⊥
 IsPlay rows (Password name) = ⊥
+IsPlay rows (DropRows configuration node database session queue lane) = ⊥
+IsPlay rows (Balancer configuration) = ⊥
 
 -- a script to play over sockets
 abbrev pub IsLoopback : List Row → Task → Type 0
@@ -173,6 +183,8 @@ IsLoopback rows (Loopback script) = IsScript rows script
 IsLoopback rows (Serve configuration node database turns most_clients connect_within limits users mqtt3 log status status_hosts listen bridge_listen) = ⊥
 IsLoopback rows (Check configuration node database) = ⊥
 IsLoopback rows (Password name) = ⊥
+IsLoopback rows (DropRows configuration node database session queue lane) = ⊥
+IsLoopback rows (Balancer configuration) = ⊥
 
 -- the number that an option is given, in range, as its text spells it
 pub record IsNumber (rows : List Row) (id : Text) (number : ℕ) : Type 0 where
@@ -228,6 +240,8 @@ IsNode rows made (Serve configuration node database turns most_clients connect_w
     × AreLimits rows limits × AreUsers rows users
 IsNode rows made (Check configuration node database) = ⊥
 IsNode rows made (Password name) = ⊥
+IsNode rows made (DropRows configuration node database session queue lane) = ⊥
+IsNode rows made (Balancer configuration) = ⊥
 
 -- one for as many turns as are asked for
 abbrev pub IsServe : List Row → Task → Type 0
@@ -247,6 +261,32 @@ IsCheck rows (Check configuration node database) =
     (first_of (codes "CONFIG") rows ≡ Some configuration.bytes.items)
     × (first_of (codes "NODE") rows ≡ Some node.bytes.items)
     × (first_of (codes "DATABASE") rows ≡ Some database.bytes.items)
+IsCheck rows (DropRows configuration node database session queue lane) = ⊥
+IsCheck rows (Balancer configuration) = ⊥
+
+-- a node that is down, and what is dropped of it
+abbrev pub IsDrop : List Row → Task → Type 0
+IsDrop rows (Play script) = ⊥
+IsDrop rows (Loopback script) = ⊥
+IsDrop rows (Serve configuration node database turns most_clients connect_within limits users mqtt3 log status status_hosts listen bridge_listen) = ⊥
+IsDrop rows (Check configuration node database) = ⊥
+IsDrop rows (DropRows configuration node database session queue lane) =
+    (first_of (codes "CONFIG") rows ≡ Some configuration.bytes.items)
+    × (first_of (codes "NODE") rows ≡ Some node.bytes.items)
+    × (first_of (codes "DATABASE") rows ≡ Some database.bytes.items)
+    × IsTextIf rows (codes "session") session × IsTextIf rows (codes "queue") queue × IsTextIf rows (codes "lane") lane
+IsDrop rows (Password name) = ⊥
+IsDrop rows (Balancer configuration) = ⊥
+
+-- a table of homes for which HAProxy is to send each client to its home
+abbrev pub IsBalancer : List Row → Task → Type 0
+IsBalancer rows (Play script) = ⊥
+IsBalancer rows (Loopback script) = ⊥
+IsBalancer rows (Serve configuration node database turns most_clients connect_within limits users mqtt3 log status status_hosts listen bridge_listen) = ⊥
+IsBalancer rows (Check configuration node database) = ⊥
+IsBalancer rows (Password name) = ⊥
+IsBalancer rows (DropRows configuration node database session queue lane) = ⊥
+IsBalancer rows (Balancer configuration) = first_of (codes "CONFIG") rows ≡ Some configuration.bytes.items
 
 -- a user whose line is wanted
 abbrev pub IsPassword : List Row → Task → Type 0
@@ -255,6 +295,8 @@ IsPassword rows (Loopback script) = ⊥
 IsPassword rows (Serve configuration node database turns most_clients connect_within limits users mqtt3 log status status_hosts listen bridge_listen) = ⊥
 IsPassword rows (Check configuration node database) = ⊥
 IsPassword rows (Password name) = first_of (codes "NAME") rows ≡ Some name.bytes.items
+IsPassword rows (DropRows configuration node database session queue lane) = ⊥
+IsPassword rows (Balancer configuration) = ⊥
 
 -- the task of a command with what follows it
 abbrev pub IsOf : Option (Text × List Row) → Task → Type 0
@@ -267,6 +309,9 @@ IsOf (Some (name, rows)) (Serve configuration node database turns most_clients c
 IsOf (Some (name, rows)) (Check configuration node database) =
     (name ≡ codes "check") × IsCheck rows (Check configuration node database)
 IsOf (Some (name, rows)) (Password user) = (name ≡ codes "password") × IsPassword rows (Password user)
+IsOf (Some (name, rows)) (DropRows configuration node database session queue lane) =
+    (name ≡ codes "drop") × IsDrop rows (DropRows configuration node database session queue lane)
+IsOf (Some (name, rows)) (Balancer configuration) = (name ≡ codes "balancer") × IsBalancer rows (Balancer configuration)
 
 -- the words are a command line without a fault, and ask for the task
 pub record IsTask (words : List Text) (task : Task) : Type 0 where

@@ -10,7 +10,12 @@ use clap::{Arg, Command};
 use std::alloc::{AllocError, Global};
 
 /// An option of this name that may be there, with a text of this kind.
-fn address_option<'a>(alloc: Global, name: &'a str, value: &'a str, help: &'a str) -> Arg<'a>
+pub(crate) fn address_option<'a>(
+    alloc: Global,
+    name: &'a str,
+    value: &'a str,
+    help: &'a str,
+) -> Arg<'a>
     ensures rule { rule_of result ≡ address_rule name.entry.now }
     ensures local { result.global ≡ false }
 {

@@ -2,6 +2,7 @@
 #![tactic(auto)]
 
 mod addresses;
+mod dropping;
 mod limits;
 mod line;
 mod task;

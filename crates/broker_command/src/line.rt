@@ -4,9 +4,10 @@ ghost use Rattle.std.specs.Prelude.{◌≡◌, map, false, pos, Some, IfOk, IfSo
 ghost use Rattle.clap.specs.declared.builder.value_parser.ValueParser.TheVariants.{Signed};
 ghost use Rattle.clap.specs.Words.{HasKind, app_of, fault_of, found_of, kind_of, rows_of, rule_of, subcommand_rows_of};
 ghost use Rattle.clap.specs.declared.builder.command.Command.TheViews.{out-Command as fields_of};
-ghost use Rattle.broker_command.specs.Line.{broker, play, loopback, node_words, with_options, serve, run, check, password, word_rule, option_rule, turns_rule, most_clients_rule, connect_within_rule, mqtt3_rule, log_rule, IsFlag, IsNumberIf, IsTextIf, IsTask, IsOf, IsPlay, IsLoopback, IsNode, IsServe, IsRun, IsCheck, IsPassword, IsScript, IsRefusal, IsStopOf};
+ghost use Rattle.broker_command.specs.Line.{broker, play, loopback, node_words, with_options, serve, run, check, password, balancer, word_rule, option_rule, turns_rule, most_clients_rule, connect_within_rule, mqtt3_rule, log_rule, IsFlag, IsNumberIf, IsTextIf, IsTask, IsOf, IsPlay, IsLoopback, IsNode, IsServe, IsRun, IsCheck, IsPassword, IsBalancer, IsScript, IsRefusal, IsStopOf};
 
 use crate::addresses::with_addresses;
+use crate::dropping::{drop_command, drop_task};
 use crate::limits::{limits_of, with_limits};
 use crate::task::Task;
 use crate::users::{users_of, with_users};
@@ -44,6 +45,8 @@ fn commands<'a>(alloc: Global) -> Result<Command<'a>, AllocError>
     let run = run_command(alloc)?;
     let check = check_command(alloc)?;
     let password = password_command(alloc)?;
+    let balancer = balancer_command(alloc)?;
+    let drop = drop_command(alloc)?;
     Command::new(alloc, "broker")
         .about("A node of a cluster of MQTT 5.0 brokers")
         .version(VERSION)
@@ -54,7 +57,9 @@ fn commands<'a>(alloc: Global) -> Result<Command<'a>, AllocError>
         .subcommand(serve)?
         .subcommand(run)?
         .subcommand(check)?
-        .subcommand(password)
+        .subcommand(password)?
+        .subcommand(balancer)?
+        .subcommand(drop)
 }
 
 fn play_command<'a>(alloc: Global) -> Result<Command<'a>, AllocError>
@@ -74,7 +79,11 @@ fn loopback_command<'a>(alloc: Global) -> Result<Command<'a>, AllocError>
 }
 
 /// A command of this name about one node of a cluster, before its options.
-fn node_words<'a>(alloc: Global, name: &'a str, about: &'a str) -> Result<Command<'a>, AllocError>
+pub(crate) fn node_words<'a>(
+    alloc: Global,
+    name: &'a str,
+    about: &'a str,
+) -> Result<Command<'a>, AllocError>
     ensures { IfOk result (λ c. (app_of c ≡ node_words name.entry.now) × ((fields_of c).has_globals ≡ false)) }
 {
     Command::new(alloc, name)
@@ -128,6 +137,16 @@ fn password_command<'a>(alloc: Global) -> Result<Command<'a>, AllocError>
     Command::new(alloc, "password")
         .about("Prints the line of a user in a file of users, for the password on standard input")
         .arg(required(alloc, "NAME").help("The user name"))
+}
+
+fn balancer_command<'a>(alloc: Global) -> Result<Command<'a>, AllocError>
+    ensures { IfOk result (λ c. (app_of c ≡ balancer) × ((fields_of c).has_globals ≡ false)) }
+{
+    Command::new(alloc, "balancer")
+        .about("Prints a backend of HAProxy that sends each client to its home")
+        .arg(required(alloc, "CONFIG").help(
+            "The file that names the nodes and their homes, in TOML",
+        ))
 }
 
 fn turns_option<'a>(alloc: Global) -> Arg<'a>
@@ -234,6 +253,10 @@ fn named_task(alloc: Global, matches: &ArgMatches<'_>) -> Result<Option<Task>, A
         check_task(alloc, found)
     } else if name == "password" {
         password_task(alloc, found)
+    } else if name == "balancer" {
+        balancer_task(alloc, found)
+    } else if name == "drop" {
+        drop_task(alloc, found)
     } else {
         Ok(None)
     }
@@ -389,6 +412,16 @@ fn password_task(alloc: Global, found: &ArgMatches<'_>) -> Result<Option<Task>, 
     };
     let name = String::from_str(alloc, name)?;
     Ok(Some(Task::Password { name }))
+}
+
+fn balancer_task(alloc: Global, found: &ArgMatches<'_>) -> Result<Option<Task>, AllocError>
+    ensures { IfOk result (λ task. IfSome task (IsBalancer (rows_of (found_of found.now)))) }
+{
+    let Some(configuration) = found.get_str("CONFIG") else {
+        return Ok(None);
+    };
+    let configuration = String::from_str(alloc, configuration)?;
+    Ok(Some(Task::Balancer { configuration }))
 }
 
 /// What the program says where a parse gives no task.

@@ -88,4 +88,24 @@ pub enum Task {
         /// The path of the node's database.
         database: String,
     },
+    /// Drop something from the rows of a node that is down.
+    DropRows {
+        /// The path of the configuration.
+        configuration: String,
+        /// The node's name in it.
+        node: String,
+        /// The path of the node's database.
+        database: String,
+        /// The client whose session is dropped, if one is.
+        session: Option<String>,
+        /// The client whose queue is dropped, if one is.
+        queue: Option<String>,
+        /// The node for which nothing is to wait, if there is one.
+        lane: Option<String>,
+    },
+    /// Print what HAProxy needs to send each client to its home.
+    Balancer {
+        /// The path of the configuration.
+        configuration: String,
+    },
 }

@@ -3,15 +3,16 @@
 use crate::limits::bounds_of;
 use broker_command::{AskedUsers, Task};
 use broker_sockets::RealSockets;
-use cli_files::{print_user_line, read_access, read_password, read_script};
-use cli_reports::check;
+use cli_drops::{Asked, drop_rows};
+use cli_files::{print_user_line, random_salt, read_access, read_password, read_script};
+use cli_reports::{balance, check};
 use cli_stops::Ending;
 use door_limits::Limits;
 use door_users::FileAccess;
 use node_server::ListenAt;
 use script_loopback::loop_script;
 use script_runs::run_script;
-use serve_node::{StatusAt, serve};
+use serve_node::{Named, Service, StatusAt, serve};
 
 /// Runs a task.
 pub fn run_task(rt: &HostRuntime, task: Task) -> Result<(), Ending> {
@@ -35,20 +36,24 @@ pub fn run_task(rt: &HostRuntime, task: Task) -> Result<(), Ending> {
             bridge_listen,
         } => serve(
             rt,
-            configuration.as_str(),
-            node.as_str(),
-            database.as_str(),
-            ListenAt {
-                clients: listen.as_ref().map(|address| address.as_str()),
-                nodes: bridge_listen.as_ref().map(|address| address.as_str()),
+            Named {
+                configuration: configuration.as_str(),
+                node: node.as_str(),
+                database: database.as_str(),
             },
             access_of(rt, &users)?,
-            bounds_of(&limits),
-            Limits::new(most_clients, connect_within),
-            mqtt3,
-            log,
-            status_at(&status, &status_hosts),
-            turns,
+            Service {
+                at: ListenAt {
+                    clients: listen.as_ref().map(|address| address.as_str()),
+                    nodes: bridge_listen.as_ref().map(|address| address.as_str()),
+                },
+                bounds: bounds_of(&limits),
+                limits: Limits::new(most_clients, connect_within),
+                mqtt3,
+                log,
+                status: status_at(&status, &status_hosts),
+                turns,
+            },
         ),
         Task::Password { name } => password(rt, name.as_str()),
         Task::Check {
@@ -62,6 +67,27 @@ pub fn run_task(rt: &HostRuntime, task: Task) -> Result<(), Ending> {
             database.as_str(),
             &mut rt.stdout(),
         ),
+        Task::DropRows {
+            configuration,
+            node,
+            database,
+            session,
+            queue,
+            lane,
+        } => {
+            let asked = Asked {
+                configuration: configuration.as_str(),
+                node: node.as_str(),
+                database: database.as_str(),
+                session: session.as_ref().map(|client| client.as_str()),
+                queue: queue.as_ref().map(|client| client.as_str()),
+                lane: lane.as_ref().map(|name| name.as_str()),
+            };
+            drop_rows(rt, asked, &mut rt.stdout())
+        }
+        Task::Balancer { configuration } => {
+            balance(rt, configuration.as_str(), &mut rt.stdout())
+        }
     }
 }
 
@@ -89,7 +115,8 @@ fn access_of(rt: &HostRuntime, users: &AskedUsers) -> Result<Option<FileAccess>,
 /// Prints the line of a user of this name, for the password on standard input.
 fn password(rt: &HostRuntime, name: &str) -> Result<(), Ending> {
     let line = read_password(rt)?;
-    print_user_line(rt, name, line.as_slice(), &mut rt.stdout())?;
+    let salt = random_salt(rt)?;
+    print_user_line(rt.alloc(), name, line.as_slice(), &salt, &mut rt.stdout())?;
     Ok(())
 }
 

@@ -1,2 +1,4 @@
+pub mod Listing
 pub mod Looking
+pub mod Reading
 pub mod Takeable

@@ -1,6 +1,7 @@
 pub mod Flaws
 pub mod Judging
 pub mod Laws
+pub mod Listed
 pub mod Looking
 pub mod Passwords
 pub mod Users

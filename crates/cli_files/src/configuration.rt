@@ -1,13 +1,16 @@
 //! The configuration that a node is started with.
 
-ghost use Rattle.std.specs.Prelude.{◌≡◌, ◌<◌, length, Ok, IfOk, IfErr};
+ghost use Rattle.std.specs.Prelude.{◌≡◌, ◌<◌, length, map, Ok, IfOk, IfErr};
 ghost use Rattle.home_table.specs.Configurations.{configuration};
+ghost use Rattle.home_table.specs.Table.{reading};
 ghost use Rattle.cli_stops.specs.declared.stop.Stop.TheVariants.{Configuration};
 ghost use Rattle.cli_files.specs.Flaws.{IsFlaw, IsRefused};
+ghost use Rattle.cli_files.specs.Listed.{AreHomes, placed};
 ghost use Rattle.cli_stops.specs.Faults.{table_fault};
 
 use crate::file::read_file;
 use crate::flaw::flaw_of;
+use crate::homes::{Home, listed};
 use broker_script::LONGEST_FILE;
 use cli_stops::{Answer, Cause, Ending, Found, Stop, answer_of, table_fault};
 use home_table::{HomeTable, TableFault, configure};
@@ -52,6 +55,19 @@ pub fn configuration_bytes(rt: &HostRuntime, path: &str) -> Result<Vec<u8>, Answ
     }
 }
 
+/// The text that these bytes are, or why they are none of a configuration.
+fn text_in(bytes: &[u8]) -> Result<&str, Found>
+    ensures { IfOk result (λ text. text.now ≡ bytes.now) }
+{
+    if bytes.len() > LONGEST_FILE {
+        return Err(Found::TooLong(LONGEST_FILE as u64));
+    }
+    match str::from_utf8(bytes) {
+        Ok(text) => Ok(text),
+        Err(_) => Err(Found::NotText),
+    }
+}
+
 /// The table of homes of a configuration that these bytes are, and the number of the named node, or its fault and what is wrong with it.
 pub fn configuration_in(
     alloc: Global,
@@ -61,12 +77,9 @@ pub fn configuration_in(
     ensures configured { IfOk result (λ place. configuration bytes.now node.now ≡ Ok place) }
     ensures below { IfOk result (λ place. place.1 < length place.0.nodes) }
 {
-    if bytes.len() > LONGEST_FILE {
-        return Err((TableFault::Syntax, Found::TooLong(LONGEST_FILE as u64)));
-    }
-    match str::from_utf8(bytes) {
+    match text_in(bytes) {
         Ok(text) => configured(alloc, text, node),
-        Err(_) => Err((TableFault::Syntax, Found::NotText)),
+        Err(found) => Err((TableFault::Syntax, found)),
     }
 }
 
@@ -83,6 +96,24 @@ pub fn configuration_of(
     match configuration_in(alloc, bytes, node) {
         Ok(place) => Ok(place),
         Err((fault, found)) => Err(refused(alloc, path, fault, found)),
+    }
+}
+
+/// The table of homes that these bytes of a file are, with its homes in the order of the file.
+pub fn homes_of(alloc: Global, path: &str, bytes: &[u8]) -> Result<(HomeTable, Vec<Home>), Ending>
+    ensures table { IfOk result (λ l. reading bytes.now ≡ Ok l.0) }
+    ensures homes { IfOk result (λ l. AreHomes l.0 (map placed l.1.items)) }
+{
+    let text = match text_in(bytes) {
+        Ok(text) => text,
+        Err(found) => return Err(refused(alloc, path, TableFault::Syntax, found)),
+    };
+    match listed(alloc, text) {
+        Ok(listed) => Ok(listed),
+        Err(fault) => {
+            let found = flaw_of(alloc, text, "", fault);
+            Err(refused(alloc, path, fault, found))
+        }
     }
 }
 

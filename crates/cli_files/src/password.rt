@@ -1,6 +1,6 @@
 //! The line of a user that the program prints.
 
-ghost use Rattle.std.specs.Prelude.{◌≡◌, ◌++◌, ◌∷◌, [], ℕ, List, OnOk};
+ghost use Rattle.std.specs.Prelude.{◌≡◌, ◌++◌, ◌∷◌, [], OnOk};
 ghost use Rattle.std.specs.Io.KnownBytes.{Appends};
 ghost use Rattle.door_users.specs.Writing.{line_for};
 ghost use Rattle.cli_files.specs.Passwords.{is_password, password_in};
@@ -53,6 +53,15 @@ pub fn read_password(rt: &HostRuntime) -> Result<Vec<u8>, Stop> {
     Ok(Vec::from_slice(alloc, password)?)
 }
 
+/// Bytes of the system's random source, as a salt. `Stop::CommandLine` says why there are none.
+pub fn random_salt(rt: &HostRuntime) -> Result<[u8; 12], Stop> {
+    let mut salt = [0; 12];
+    match rt.fill_bytes(&mut salt) {
+        Ok(()) => Ok(salt),
+        Err(error) => Err(refused(rt.alloc(), "random bytes", &answer_of(&error))),
+    }
+}
+
 /// Prints the line of a user of this name with this password and this salt, as a file of users has it.
 fn put_line<W: Write>(
     alloc: Global,
@@ -71,23 +80,19 @@ fn put_line<W: Write>(
     }
 }
 
-/// Prints the line of a user of this name with this password and a salt of random bytes, as a file of users has it. `Stop::CommandLine` says that no line has such a name.
+/// Prints the line of a user of this name with this password and this salt, as a file of users has it. `Stop::CommandLine` says that no line has such a name.
 pub fn print_user_line<W: Write>(
-    rt: &HostRuntime,
+    alloc: Global,
     name: &str,
     password: &[u8],
+    salt: &[u8; 12],
     out: &mut W,
 ) -> Result<(), Stop>
-    ensures { OnOk result ((salt : List ℕ) × Appends (W.contents out.old) (W.contents out.new) (line_for name.now password.now salt 101 ++ 10 ∷ [])) }
+    ensures { OnOk result (Appends (W.contents out.old) (W.contents out.new) (line_for name.now password.now salt.now 101 ++ 10 ∷ [])) }
 {
-    let alloc = rt.alloc();
     if !is_user_name(name) {
         let why = "no line of a file of users can have this name";
         return Err(refused(alloc, name, &why));
     }
-    let mut salt = [0; 12];
-    if let Err(error) = rt.fill_bytes(&mut salt) {
-        return Err(refused(alloc, "random bytes", &answer_of(&error)));
-    }
-    put_line(alloc, name, password, &salt, out)
+    put_line(alloc, name, password, salt, out)
 }

@@ -1,9 +1,9 @@
 //! The files of users and of permissions that a node is started with.
 
-ghost use Rattle.std.specs.Prelude.{◌≡◌, ◌++◌, codes, is_some, IfOk};
+ghost use Rattle.std.specs.Prelude.{◌≡◌, ◌++◌, codes, is_some, IfOk, IfSome};
 ghost use Rattle.std.specs.Option.{option_copied};
 ghost use Rattle.std.specs.String.{string_bytes};
-ghost use Rattle.cli_files.specs.Users.{AreAsked};
+ghost use Rattle.cli_files.specs.Users.{AreAsked, AreRead};
 ghost use Rattle.door_users.specs.Files.{AreOfFiles, rights_of};
 ghost use Rattle.door_users.specs.Flaws.{fault_text};
 ghost use Rattle.door_users.specs.declared.fault.FileFault.TheVariants.{Line};
@@ -95,7 +95,9 @@ fn access_at(
     users: &str,
     permissions: Option<&str>,
     anonymous: bool,
-) -> Result<FileAccess, Stop> {
+) -> Result<FileAccess, Stop>
+    ensures { IfOk result (λ access. AreRead (option_copied permissions.entry) anonymous (rights_of access)) }
+{
     let alloc = rt.alloc();
     let paths = Paths {
         users,
@@ -103,12 +105,14 @@ fn access_at(
     };
     let bytes = bytes_of(rt, users)?;
     let text = text_of(alloc, users, &bytes)?;
-    let Some(path) = permissions else {
-        return access_in(alloc, paths, text, None, anonymous);
-    };
-    let rules = bytes_of(rt, path)?;
-    let rules = text_of(alloc, path, &rules)?;
-    access_in(alloc, paths, text, Some(rules), anonymous)
+    match permissions {
+        None => access_in(alloc, paths, text, None, anonymous),
+        Some(path) => {
+            let rules = bytes_of(rt, path)?;
+            let rules = text_of(alloc, path, &rules)?;
+            access_in(alloc, paths, text, Some(rules), anonymous)
+        }
+    }
 }
 
 /// Who may come and what each may do, by the files at these paths; nothing where there is no file of users. `Stop::CommandLine` names a file that can't be
@@ -119,7 +123,8 @@ pub fn read_access(
     permissions: Option<&str>,
     anonymous: bool,
 ) -> Result<Option<FileAccess>, Stop>
-    ensures { IfOk result (λ access. AreAsked (option_copied users.entry) (option_copied permissions.entry) anonymous (is_some access)) }
+    ensures asked { IfOk result (λ access. AreAsked (option_copied users.entry) (option_copied permissions.entry) anonymous (is_some access)) }
+    ensures rights { IfOk result (λ access. IfSome access (λ a. AreRead (option_copied permissions.entry) anonymous (rights_of a))) }
 {
     let why = "it is for users: give --users too";
     match users {

@@ -9,6 +9,7 @@ use Rattle.subscription_set.specs.Standing.{live}
 use Rattle.node_rows.specs.declared.reading.Opened.{Opened}
 use Rattle.node_rows.specs.Reading.{IsLasting, IsOpened, Say}
 use Rattle.node_rows.specs.Rows.{Lasting}
+use Rattle.table_versions.specs.Newest.{newest_of}
 use Rattle.cli_reports.specs.declared.figures.Figures.{Figures}
 
 -- two bytes that are the number of a node, the highest first
@@ -31,13 +32,14 @@ pub record AreGreatest (dots : Dots) (nodes : ℕ) (numbers : List ℕ) : Type 0
   pub are : (node : ℕ) → node < nodes → slice_index numbers node ≡ greatest_of dots node
 
 -- the figures of what was opened from the rows: sessions, subscriptions that are live, topics that have a message, messages that wait
--- for each node, and the last operation of each node that was taken
-pub record AreFigures (rows : List Row) (nodes : ℕ) (opened : Opened) (figures : Figures) : Type 0 where
+-- for each node, the last operation of each node that was taken, and the greatest version of the table of homes under which this node made a subscription that stands
+pub record AreFigures (rows : List Row) (id nodes : ℕ) (opened : Opened) (figures : Figures) : Type 0 where
   pub sessions : figures.sessions ≡ map.len opened.sessions
   pub subscriptions : figures.subscriptions ≡ length (live opened.store.subscriptions)
   pub retained : figures.retained ≡ length (with_message (map.entries opened.store.retained))
   pub waiting : AreWaiting rows nodes figures.waiting.items
   pub taken : AreGreatest opened.store.taken nodes figures.taken.items
+  pub newest : figures.newest ≡ newest_of id opened.store
 
 -- the rows say what lasts of node `id` of so many, and these are the figures of what is opened from it
 pub record IsReported (rows : List Row) (id nodes : ℕ) (figures : Figures) : Type 0 where
@@ -46,4 +48,4 @@ pub record IsReported (rows : List Row) (id nodes : ℕ) (figures : Figures) : T
   pub lasts : IsLasting id nodes lasting
   pub said : Say rows id lasting
   pub is : IsOpened id nodes lasting opened
-  pub are : AreFigures rows nodes opened figures
+  pub are : AreFigures rows id nodes opened figures

@@ -1,4 +1,6 @@
+pub mod Balancer
 pub mod Figures
 pub mod Finding
 pub mod Flaws
 pub mod Report
+pub mod Sent

@@ -8,17 +8,8 @@ use cli_stops::{Cause, Ending, Found, RunFault, Stop, Tried, answer_of, rows_fau
 use home_table::HomeTable;
 use std::io::Write;
 
-/// Prints the text of the figures.
-fn print<W: Write>(
-    rt: &HostRuntime,
-    out: &mut W,
-    node: &str,
-    id: u16,
-    figures: &Figures,
-) -> Result<(), Ending> {
-    let Ok(text) = report(rt.alloc(), node, id, figures) else {
-        return Err(Ending::from(Stop::Run(RunFault::NoMemory)));
-    };
+/// Prints a text.
+pub(crate) fn print_text<W: Write>(text: &String, out: &mut W) -> Result<(), Ending> {
     match out.write_all(text.as_bytes()) {
         Ok(()) => Ok(()),
         Err(error) => Err(Ending {
@@ -31,8 +22,35 @@ fn print<W: Write>(
     }
 }
 
+/// Prints the text of the figures.
+fn print<W: Write>(
+    rt: &HostRuntime,
+    out: &mut W,
+    node: &str,
+    id: u16,
+    figures: &Figures,
+) -> Result<(), Ending> {
+    let Ok(text) = report(rt.alloc(), node, id, figures) else {
+        return Err(Ending::from(Stop::Run(RunFault::NoMemory)));
+    };
+    print_text(&text, out)
+}
+
+/// What ends a check of the rows in the database at a path, where the node has made a subscription under a later version than the table's.
+fn older(rt: &HostRuntime, path: &str, figures: &Figures, homes: &HomeTable) -> Option<Ending> {
+    let newest = figures.newest;
+    let version = homes.version();
+    if newest <= version {
+        return None;
+    }
+    Some(Ending {
+        stop: Stop::Run(RunFault::OlderTable(newest)),
+        cause: Cause::keeping(rt.alloc(), path, Found::OlderTable(newest, version)),
+    })
+}
+
 /// Prints what the rows of the named node of a configuration hold, which are in the database at a path. The node is down, and no file is
-/// made or changed.
+/// made or changed. A table from which the node wouldn't be opened ends it as its start.
 pub fn check<W: Write>(
     rt: &HostRuntime,
     configuration: &str,
@@ -42,7 +60,10 @@ pub fn check<W: Write>(
 ) -> Result<(), Ending> {
     let (homes, id) = read_configuration(rt, configuration, node)?;
     match held(rt, database, id, homes.nodes()) {
-        Ok(figures) => print(rt, out, node, id, &figures),
+        Ok(figures) => match older(rt, database, &figures, &homes) {
+            Some(ending) => Err(ending),
+            None => print(rt, out, node, id, &figures),
+        },
         Err(cause) => {
             let fault = match &cause {
                 Some(cause) => rows_fault(&cause.found),

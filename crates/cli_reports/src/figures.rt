@@ -14,6 +14,7 @@ use mqtt_fields::NoMemory;
 use node_rows::{Opened, open};
 use row_store::{Row, RowFault};
 use std::alloc::Global;
+use table_versions::newest_of;
 
 /// The kind of a message that waits for another node.
 const WAITING: u8 = 7;
@@ -31,6 +32,8 @@ pub struct Figures {
     pub waiting: Vec<u64>,
     /// The number of the last operation of each node that was taken, by the numbers of the nodes.
     pub taken: Vec<u64>,
+    /// The greatest version of the table of homes under which the node made a subscription that stands; 0 where it made none.
+    pub newest: u32,
 }
 
 /// Whether two bytes are the number of a node.
@@ -80,8 +83,14 @@ fn greatest_in(alloc: Global, taken: &Context, nodes: u16) -> Result<Vec<u64>, N
 }
 
 /// The figures of what was opened from rows.
-fn figures_in(alloc: Global, opened: &Opened, rows: &[Row], nodes: u16) -> Result<Figures, NoMemory>
-    ensures { IfOk result (AreFigures rows.now nodes opened.now) }
+fn figures_in(
+    alloc: Global,
+    opened: &Opened,
+    rows: &[Row],
+    id: u16,
+    nodes: u16,
+) -> Result<Figures, NoMemory>
+    ensures { IfOk result (AreFigures rows.now id nodes opened.now) }
 {
     let store = &opened.store;
     Ok(Figures {
@@ -90,6 +99,7 @@ fn figures_in(alloc: Global, opened: &Opened, rows: &[Row], nodes: u16) -> Resul
         retained: store.retained().messages() as u64,
         waiting: waiting_in(alloc, rows, nodes)?,
         taken: greatest_in(alloc, store.taken(), nodes)?,
+        newest: newest_of(store, id),
     })
 }
 
@@ -106,7 +116,7 @@ pub fn figures_of(alloc: Global, rows: &[Row], id: u16, nodes: u16) -> Result<Fi
         Err(RowFault::BadRow) => return Err(flaw_of(rows, id)),
         Err(_) => return Err(Flaw::NoMemory),
     };
-    match figures_in(alloc, &opened, rows, nodes) {
+    match figures_in(alloc, &opened, rows, id, nodes) {
         Ok(figures) => Ok(figures),
         Err(_) => Err(Flaw::NoMemory),
     }

@@ -4,7 +4,7 @@ use Rattle.std.specs.Fmt.{decimal}
 use Rattle.cli_stops.specs.Stops.{stop_text}
 use Rattle.cli_stops.specs.declared.cause.Cause.{Cause}
 use Rattle.cli_stops.specs.declared.cause.Found.{Found}
-use Rattle.cli_stops.specs.declared.cause.Found.TheVariants.{Answered, TooLong, NotText, NotToml, NotTable, NoNodes, TwiceNamed, NoHome, NotNamed, NoAddress, Unmade, NotPlain, Locked, NoDatabase, Foreign, NoRows, NoMark, OtherVersion, OtherNode, Unsound, Failed, NoMemory}
+use Rattle.cli_stops.specs.declared.cause.Found.TheVariants.{Answered, TooLong, NotText, NotToml, NotTable, NoNodes, TwiceNamed, NoHome, NotNamed, NoAddress, Unmade, NotPlain, Locked, NoDatabase, Foreign, NoRows, NoMark, OtherVersion, OtherNode, Unsound, OlderTable, Failed, NoMemory}
 use Rattle.cli_stops.specs.declared.cause.Tried.{Tried}
 use Rattle.cli_stops.specs.declared.cause.Tried.TheVariants.{Reading, Opening, Keeping, Waiting, Finding, Printing}
 use Rattle.cli_stops.specs.declared.ending.Ending.{Ending}
@@ -39,6 +39,7 @@ found_text NoMark = codes "they do not begin with the mark of a node"
 found_text (OtherVersion version) = codes "they are of version " ++ decimal version ++ codes ", and versions 1 to 3 are read"
 found_text (OtherNode node) = codes "they are those of node " ++ decimal node ++ codes " of the table, counted from 0"
 found_text Unsound = codes "no node of the table has such rows"
+found_text (OlderTable newest version) = codes "they are of version " ++ (decimal newest ++ (codes " of the table, and this table is of version " ++ decimal version))
 found_text Failed = codes "the disk or the database failed"
 found_text NoMemory = codes "memory ran out"
 

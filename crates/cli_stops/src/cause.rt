@@ -67,6 +67,8 @@ pub enum Found {
     OtherNode(u16),
     /// The rows are of no node of the table.
     Unsound,
+    /// The rows have a subscription that the node made under the first version of the table, and the table that is given is of the second one.
+    OlderTable(u32, u32),
     /// The disk or the database failed.
     Failed,
     /// Memory ran out.
@@ -132,6 +134,10 @@ impl fmt::Display for Found {
                 "they are those of node {node} of the table, counted from 0"
             ),
             Found::Unsound => write!(f, "no node of the table has such rows"),
+            Found::OlderTable(newest, version) => write!(
+                f,
+                "they are of version {newest} of the table, and this table is of version {version}"
+            ),
             Found::Failed => write!(f, "the disk or the database failed"),
             Found::NoMemory => write!(f, "memory ran out"),
         }

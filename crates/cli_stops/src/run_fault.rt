@@ -22,6 +22,8 @@ pub enum RunFault {
     Spent,
     /// The rows of a node can't be opened, read or written.
     Rows,
+    /// The table of homes is older than the one of this version, under which the node has made a subscription.
+    OlderTable(u32),
     /// A moment or a number of 2^62 or more would be needed.
     NumbersAtEnd,
     /// A node had stopped before.
@@ -45,6 +47,7 @@ impl fmt::Display for RunFault {
             RunFault::UnknownFrame => write!(f, "UnknownFrame"),
             RunFault::Spent => write!(f, "Spent"),
             RunFault::Rows => write!(f, "Rows"),
+            RunFault::OlderTable(_) => write!(f, "OlderTable"),
             RunFault::NumbersAtEnd => write!(f, "NumbersAtEnd"),
             RunFault::Stopped => write!(f, "Stopped"),
             RunFault::Turns => write!(f, "Turns"),

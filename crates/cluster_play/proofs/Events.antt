@@ -169,8 +169,8 @@ module _ (nodes : List (Keeper MemoryRows)) (frames : List Frame) (i : ℕ) (k :
   cut_down down = (site_of k, at, tt, (refl, none_held (node_of k).up down, still k refl))
 
   -- ---- a restart
-  pub restarted : (k' : Keeper MemoryRows) → OpensFromRows (node_of k).place (node_of k).homes (rows_of k) (rows_of k') (node_of k') → Befalls before i OfRestart (Restarted i) (world_of (set nodes i k') frames)
-  restarted k' o = (site_of k, at, tt, (refl, (site_of k', record { rows = o.mark; node = o.reopened }, alone k' (site_of k') refl)))
+  pub restarted : (k' : Keeper MemoryRows) → OpensFromRows (node_of k).place (node_of k).homes (rows_of k) (rows_of k') (node_of k') → Befalls before i OfRestart (Restarted i (node_of k).homes) (world_of (set nodes i k') frames)
+  restarted k' o = (site_of k, at, tt, (refl, (site_of k', record { rows = o.mark; node = o.reopened; table = inl refl }, alone k' (site_of k') refl)))
 
   pub not_restarted : (fault : KeeperFault) (k' : Keeper MemoryRows) → MayStayDown (site_of k) fault → (node_of k') ≡ record (node_of k) { up = None } → may_be_marked (node_of k).place.id (rows_of k) (rows_of k') → Befalls before i OfRestart (Faulted i fault) (world_of (set nodes i k') frames)
   not_restarted fault k' may node rows = (site_of k, at, may, (refl, (site_of k', record { node = node; rows = rows }, alone k' (site_of k') refl)))

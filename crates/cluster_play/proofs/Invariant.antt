@@ -9,6 +9,7 @@ use Rattle.replica_store.specs.Operations.{HaveOwnDots}
 use Rattle.replica_store.specs.States.{State}
 use Rattle.replica_store.proofs.Unions.{among_cases}
 use Rattle.broker_node.specs.declared.event.Event.{Event}
+use Rattle.home_table.specs.Table.{Table}
 use Rattle.node_keeper.specs.Keeping.{AreOf}
 use Rattle.node_rows.specs.Reading.{IsLasting, RowsTellAll}
 use Rattle.node_bridge.specs.View.{BridgeView}
@@ -207,17 +208,17 @@ module _ (p : Past) (w w' : World) (x : Explains p w) (fate : Fate) (idle : acts
       seat_stays p (length w.sites) i fate k.0 s y k.2 (subst (λ os. Holding i os y.held) no_ops y.holding) (ap (λ ms. cond (nat_eq (site fate) i) ms []) none ∙ if_none (nat_eq (site fate) i)) (no_gain i))) r.frames
 
   -- a node is opened again
-  seat_woke : RowsTellAll → (i : ℕ) (c : Woke w i w') → site fate ≡ i → moves_of fate ≡ Reopened ∷ [] → Seated (past_and p fate) (length w.sites) i c.later
-  seat_woke tell i c own moves =
+  seat_woke : RowsTellAll → (i : ℕ) (homes : Table) (c : Woke w i homes w') → site fate ≡ i → moves_of fate ≡ Reopened homes ∷ [] → Seated (past_and p fate) (length w.sites) i c.later
+  seat_woke tell i homes c own moves =
       let y = x.sites i c.was c.at in
       let o = c.reopens.node in
       let place = c.was.node.place in
       let first = fresh y.first in
       let can : IsLasting place.id place.nodes (lasting y.held) = lasts_here p w x i c.was c.at y in
-      let again = reopened tell place c.was.node.homes c.was.rows c.later.rows y.held o.held o.lasting y.homes can y.rows c.reopens.rows o.are o.woken in
+      let again = reopened tell place homes c.was.rows c.later.rows y.held o.held o.lasting can y.rows c.reopens.rows o.are o.woken in
       let at : c.later.node.place ≡ place = ap (λ n. n.place) o.is in
-      let mine : own_moves i fate ≡ Reopened ∷ [] = ap (λ b. cond b (moves_of fate) []) (eq-eqb (site fate) i own) ∙ moves in
-      let all : Moves place first (p.moves i ++ Reopened ∷ []) o.held = moves_join place (p.moves i) (Reopened ∷ []) first y.held o.held y.moves (o.held, again.woken, refl) in
+      let mine : own_moves i fate ≡ Reopened homes ∷ [] = ap (λ b. cond b (moves_of fate) []) (eq-eqb (site fate) i own) ∙ moves in
+      let all : Moves place first (p.moves i ++ Reopened homes ∷ []) o.held = moves_join place (p.moves i) (Reopened homes ∷ []) first y.held o.held y.moves (o.held, again.woken, refl) in
       record {
         id = ap (λ (q : Place). q.id) at ∙ y.id;
         nodes = ap (λ (q : Place). q.nodes) at ∙ y.nodes;
@@ -237,8 +238,8 @@ module _ (p : Past) (w w' : World) (x : Explains p w) (fate : Fate) (idle : acts
         listed = λ d. ap (λ (t : State). set.contains t.taken d) again.store ∙ y.listed d ∙ sym (or_false (p.took i d)) ∙ ap (λ b. p.took i d || b) (sym (no_gain i d));
       }
 
-  pub explains_woke : RowsTellAll → (i : ℕ) → Woke w i w' → site fate ≡ i → moves_of fate ≡ Reopened ∷ [] → Explains (past_and p fate) w'
-  explains_woke tell i c own moves = explains_with (λ j s a. each_changed (Seated (past_and p fate) (length w.sites)) w.sites i c.was c.later c.at (seat_woke tell i c own moves)
+  pub explains_woke : RowsTellAll → (i : ℕ) (homes : Table) → Woke w i homes w' → site fate ≡ i → moves_of fate ≡ Reopened homes ∷ [] → Explains (past_and p fate) w'
+  explains_woke tell i homes c own moves = explains_with (λ j s a. each_changed (Seated (past_and p fate) (length w.sites)) w.sites i c.was c.later c.at (seat_woke tell i homes c own moves)
       (λ j s ne a. (let y = x.sites j s a in
       let apart : site fate ≢ j = λ q. ne (sym own ∙ q) in
       seat_stays p (length w.sites) j fate s s y (same_seat s) (subst (λ os. Holding j os y.held) no_ops y.holding) (none_other (site fate) j (moves_of fate) apart) (no_gain j)))
@@ -255,4 +256,4 @@ step_explains tell p w w' step x (Lost i e acts) honest h =
 step_explains tell p w w' step x (Cut i) honest h = explains_idle p w w' x (Cut i) refl (step_sites w step (Cut i) w' h) refl (came w step (Cut i) w' h)
 step_explains tell p w w' step x (Faulted i fault) honest h = explains_idle p w w' x (Faulted i fault) refl (step_sites w step (Faulted i fault) w' h) refl (came w step (Faulted i fault) w' h)
 step_explains tell p w w' step x (Was_down i) honest h = explains_idle p w w' x (Was_down i) refl (step_sites w step (Was_down i) w' h) refl (came w step (Was_down i) w' h)
-step_explains tell p w w' step x (Restarted i) honest h = explains_woke p w w' x (Restarted i) refl (step_sites w step (Restarted i) w' h) tell i (came w step (Restarted i) w' h) refl refl
+step_explains tell p w w' step x (Restarted i homes) honest h = explains_woke p w w' x (Restarted i homes) refl (step_sites w step (Restarted i homes) w' h) tell i homes (came w step (Restarted i homes) w' h) refl refl

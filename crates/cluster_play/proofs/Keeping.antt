@@ -4,6 +4,7 @@ use Rattle.std.specs.List.{slice_get}
 use Rattle.std.specs.FinSet as set
 use Rattle.causal_context.specs.Dots.{Dot, Dots}
 use Rattle.node_keeper.specs.declared.fault.KeeperFault.{KeeperFault}
+use Rattle.home_table.specs.Table.{Table}
 use Rattle.node_keeper.specs.Keeping.{AreOf, AreOfNone}
 use Rattle.node_rows.proofs.OneNode.{rows_tell_all}
 use Rattle.node_rows.specs.Reading.{IsLasting}
@@ -57,12 +58,12 @@ rows_of_held run w r i h at =
     let same : x.held ≡ h = sym (x.up h at.up) in
     (subst (AreOf at.site.node.place at.site.rows) same x.rows, subst (λ (v : HeldView). IsLasting i (length w.sites) (lasting v)) same (can run w r i at.site at.at))
 
-restarted_seat : (run : List Played) (w w' : World) (r : Reached run w) (i : ℕ) → Woke w i w' → (h' : HeldView) → Holds w' i h' → WakesFrom run r.start w i h'
-restarted_seat run w w' r i c h' holds =
+restarted_seat : (run : List Played) (w w' : World) (r : Reached run w) (i : ℕ) (homes : Table) → Woke w i homes w' → (h' : HeldView) → Holds w' i h' → WakesFrom run r.start w i homes h'
+restarted_seat run w w' r i homes c h' holds =
     let x = seat run w r i c.was c.at in
     let o = c.reopens.node in
     let place = c.was.node.place in
-    let again = reopened rows_tell_all place c.was.node.homes c.was.rows c.later.rows x.held o.held o.lasting x.homes (can_here run w r i c.was c.at) x.rows c.reopens.rows o.are o.woken in
+    let again = reopened rows_tell_all place homes c.was.rows c.later.rows x.held o.held o.lasting (can_here run w r i c.was c.at) x.rows c.reopens.rows o.are o.woken in
     let there : c.later ≡ holds.site = some_is (sym (get-set_same w.sites i c.later c.was c.at) ∙ sym (ap (λ ss. slice_get ss i) c.sites) ∙ holds.at) in
     let same : o.held ≡ h' = some_is (sym (ap (λ n. n.up) o.is) ∙ ap (λ (s : Site). s.node.up) there ∙ holds.up) in
     record {
@@ -70,12 +71,12 @@ restarted_seat run w w' r i c h' holds =
       at = c.at;
       held = x.held;
       last = record { first = x.first; is_first = is_first r.start i x.first x.was; moves = x.moves; homes = x.homes; rows = x.rows; up = x.up };
-      woken = subst (IsWoken x.held.homes (lasting x.held)) same again.woken;
+      woken = subst (IsWoken homes (lasting x.held)) same again.woken;
     }
 
-pub restarts_with_what_lasts : (run : List Played) (w w' : World) (m : Played) (r : Reached run w) → Happens w m.step m.fate w' → (i : ℕ) → m.fate ≡ Restarted i → (h' : HeldView) → Holds w' i h' → WakesFrom run r.start w i h'
-restarts_with_what_lasts run w w' m r h i is h' holds =
-    restarted_seat run w w' r i (came w m.step (Restarted i) w' (subst (λ (f : Fate). Happens w m.step f w') is h)) h' holds
+pub restarts_with_what_lasts : (run : List Played) (w w' : World) (m : Played) (r : Reached run w) → Happens w m.step m.fate w' → (i : ℕ) (homes : Table) → m.fate ≡ Restarted i homes → (h' : HeldView) → Holds w' i h' → WakesFrom run r.start w i homes h'
+restarts_with_what_lasts run w w' m r h i homes is h' holds =
+    restarted_seat run w w' r i homes (came w m.step (Restarted i homes) w' (subst (λ (f : Fate). Happens w m.step f w') is h)) h' holds
 
 faulted_site : (run : List Played) (w w' : World) → Reached run w → (i : ℕ) (fault : KeeperFault) → Befell w (Faulted i fault) w' → (s s' : Site) → slice_get w.sites i ≡ Some s → slice_get w'.sites i ≡ Some s' → s' ≡ stopped s
 faulted_site run w w' r i fault b s s' at at' =

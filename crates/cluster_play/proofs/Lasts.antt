@@ -87,22 +87,22 @@ pub may_be_same : (p : Place) (rows rows' : Content) (h : HeldView) → AreOf p 
 may_be_same p rows rows' h are (inl e) = e
 may_be_same p rows rows' h are (inr e) = absurd (has_rows p rows h are e.0)
 
-pub record WokenAlike (p : Place) (rows : Content) (h h' : HeldView) : Type 0 where
-  pub woken : IsWoken h.homes (lasting h) h'
+pub record WokenAlike (p : Place) (homes : Table) (rows : Content) (h h' : HeldView) : Type 0 where
+  pub woken : IsWoken homes (lasting h) h'
   pub are : AreOf p rows h'
   pub lasts : CanLast h'
   pub store : h'.store ≡ h.store
   pub bridge : h'.bridge ≡ woken_bridge h.bridge.lanes
 
 -- from the rows of what it held
-pub reopened : RowsTellAll → (p : Place) (homes : Table) (rows rows' : Content) (h h' : HeldView) (x : Lasting) → homes ≡ h.homes → IsLasting p.id (nodes_of p) (lasting h) → AreOf p rows h → marked_or_raised p.id rows rows'
-    → AreLasting p rows' x → IsWoken homes x h' → WokenAlike p rows' h h'
-reopened tell p homes rows rows' h h' x table can are m says woken =
+pub reopened : RowsTellAll → (p : Place) (homes : Table) (rows rows' : Content) (h h' : HeldView) (x : Lasting) → IsLasting p.id (nodes_of p) (lasting h) → AreOf p rows h → marked_or_raised p.id rows rows'
+    → AreLasting p rows' x → IsWoken homes x h' → WokenAlike p homes rows' h h'
+reopened tell p homes rows rows' h h' x can are m says woken =
     let same = marked_same p rows rows' h are m in
     let one : x ≡ lasting h = tell (nodes_of p) p.id x (lasting h) says.0 can (λ key. sym (says.1 key) ∙ ap (λ (c : Content). map.get c key) same ∙ are key) in
     let lasts : lasting h' ≡ x = woken_lasts p.id (nodes_of p) homes x h' says.0 woken in
     record {
-      woken = subst (λ (t : Table). IsWoken t (lasting h) h') table (subst (λ (y : Lasting). IsWoken homes y h') one woken);
+      woken = subst (λ (y : Lasting). IsWoken homes y h') one woken;
       are = λ key. says.1 key ∙ ap (λ (y : Lasting). node_row p.id y key) (sym lasts);
       lasts = can_last p.id (nodes_of p) h' (subst (IsLasting p.id (nodes_of p)) (sym lasts) says.0);
       store = ap (λ (y : Lasting). y.store) (lasts ∙ one);

@@ -71,7 +71,7 @@ one_table p h Dropped may = refl
 pub moves_homes : (p : Place) (moves : List Move) (h h' : HeldView) → Moves p h moves h' → h'.homes ≡ homes_after h.homes moves
 moves_homes p [] h h' all = ap (λ (v : HeldView). v.homes) all
 moves_homes p (Acted a ∷ moves) h h' all = moves_homes p moves all.0 h' all.2 ∙ ap (λ t. homes_after t moves) (ap (λ (v : HeldView). v.homes) all.1.1 ∙ one_table p h a all.1.0)
-moves_homes p (Reopened ∷ moves) h h' all = moves_homes p moves all.0 h' all.2 ∙ ap (λ t. homes_after t moves) (ap (λ (v : HeldView). v.homes) all.1.2)
+moves_homes p (Reopened homes ∷ moves) h h' all = moves_homes p moves all.0 h' all.2 ∙ ap (λ t. homes_after t moves) (ap (λ (v : HeldView). v.homes) all.1.2)
 
 pub keeps_its_table : (run : List Played) (w : World) (r : Reached run w) (i : ℕ) (s : Site) → slice_get w.sites i ≡ Some s
     → (first : Table) × IsFirst r.start i first × (s.node.homes ≡ homes_after first (moves_at i run))

@@ -45,4 +45,4 @@ next_moment h Dropped = omega arith
 pub moves_moment : (p : Place) (moves : List Move) (h h' : HeldView) → Moves p h moves h' → h'.at ≡ moment_after h.at moves
 moves_moment p [] h h' all = ap (λ (v : HeldView). v.at) all
 moves_moment p (Acted a ∷ moves) h h' all = moves_moment p moves all.0 h' all.2 ∙ ap (λ at. moment_after at moves) (ap (λ (v : HeldView). v.at) all.1.1 ∙ next_moment h a)
-moves_moment p (Reopened ∷ moves) h h' all = moves_moment p moves all.0 h' all.2 ∙ ap (λ at. moment_after at moves) (ap (λ (v : HeldView). v.at) all.1.2)
+moves_moment p (Reopened homes ∷ moves) h h' all = moves_moment p moves all.0 h' all.2 ∙ ap (λ at. moment_after at moves) (ap (λ (v : HeldView). v.at) all.1.2)

@@ -59,7 +59,7 @@ module _ (p : Place) where
   moved_none : (moves : List Move) (h h' : HeldView) → HasNone h → Moves p h moves h' → HasNone h'
   moved_none [] h h' none r = subst HasNone (sym r) none
   moved_none (Acted a ∷ moves) h h' none r = moved_none moves r.0 h' (subst HasNone (sym r.1.1) (next_none h a none r.1.0)) r.2
-  moved_none (Reopened ∷ moves) h h' none r = moved_none moves r.0 h' (subst HasNone (sym r.1.2) none) r.2
+  moved_none (Reopened homes ∷ moves) h h' none r = moved_none moves r.0 h' (subst HasNone (sym r.1.2) none) r.2
 
 -- whatever becomes of it from its first opening on
 pub has_no_lane : (p : Place) (first : Table) (moves : List Move) (h : HeldView) → Moves p (fresh first) moves h → HasNoLane p.id h.bridge.lanes

@@ -41,7 +41,7 @@ became_frames w i s (Lost j e acts) w' b = ap (λ (v : World). v.frames) b.1.3
 became_frames w i s (Cut j) w' b = ap (λ (v : World). v.frames) b.2
 became_frames w i s (Faulted j fault) w' b = ap (λ (v : World). v.frames) b.1.2
 became_frames w i s (Was_down j) w' b = ap (λ (v : World). v.frames) b.2 ∙ sym (append-nil w.frames)
-became_frames w i s (Restarted j) w' b = ap (λ (v : World). v.frames) b.1.2
+became_frames w i s (Restarted j homes) w' b = ap (λ (v : World). v.frames) b.1.2
 
 pub step_frames : (w : World) (step : Step) (fate : Fate) (w' : World) → Happens w step fate w' → w'.frames ≡ w.frames ++ frames_released fate
 step_frames w step fate w' h = let b = befell w step fate w' h in became_frames w b.i b.was fate w' b.becomes
@@ -52,7 +52,7 @@ became_sites w i s (Lost j e acts) w' b = ap (λ (v : World). length v.sites) b.
 became_sites w i s (Cut j) w' b = ap (λ (v : World). length v.sites) b.2 ∙ length-set w.sites i (stopped s)
 became_sites w i s (Faulted j fault) w' b = ap (λ (v : World). length v.sites) b.1.2 ∙ length-set w.sites i b.1.0
 became_sites w i s (Was_down j) w' b = ap (λ (v : World). length v.sites) b.2
-became_sites w i s (Restarted j) w' b = ap (λ (v : World). length v.sites) b.1.2 ∙ length-set w.sites i b.1.0
+became_sites w i s (Restarted j homes) w' b = ap (λ (v : World). length v.sites) b.1.2 ∙ length-set w.sites i b.1.0
 
 pub step_sites : (w : World) (step : Step) (fate : Fate) (w' : World) → Happens w step fate w' → length w'.sites ≡ length w.sites
 step_sites w step fate w' h = let b = befell w step fate w' h in became_sites w b.i b.was fate w' b.becomes
@@ -98,7 +98,7 @@ known_event w (steps.Restart i) (Lost j c acts) w' e honest h is = absurd h.2
 known_event w step (Cut j) w' e honest h is = none-some is
 known_event w step (Faulted j fault) w' e honest h is = none-some is
 known_event w step (Was_down j) w' e honest h is = none-some is
-known_event w step (Restarted j) w' e honest h is = none-some is
+known_event w step (Restarted j homes) w' e honest h is = none-some is
 
 -- ---- one more step
 honest_more : (run : List Played) (m : Played) (w w' : World) → Run w run w' → IsHonest w.frames run → IsHonestStep w'.frames m.step → IsHonest w.frames (run ++ m ∷ [])
@@ -196,4 +196,4 @@ commits_acts (Lost i e acts) before rest a h = (e, refl)
 commits_acts (Cut i) before rest a h = no_acts before rest a h
 commits_acts (Faulted i fault) before rest a h = no_acts before rest a h
 commits_acts (Was_down i) before rest a h = no_acts before rest a h
-commits_acts (Restarted i) before rest a h = no_acts before rest a h
+commits_acts (Restarted i homes) before rest a h = no_acts before rest a h

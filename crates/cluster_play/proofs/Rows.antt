@@ -5,6 +5,7 @@ use Rattle.std.specs.List.{slice_get}
 use Rattle.std.proofs.Math.ListN.{set}
 use Rattle.broker_node.specs.declared.event.Event.{Event}
 use Rattle.broker_node.specs.Step.{Steps}
+use Rattle.home_table.specs.Table.{Table}
 use Rattle.node_keeper.specs.Keeping.{AreOf, may_be_marked}
 use Rattle.node_work.specs.declared.frame.Frame.{Frame}
 use Rattle.node_work.specs.declared.outcome.Output.{Output}
@@ -48,12 +49,12 @@ pub record Rests (w w' : World) : Type 0 where
   pub sites : (i : ℕ) (s' : Site) → slice_get w'.sites i ≡ Some s' → (s : Site) × (slice_get w.sites i ≡ Some s) × Stays s s'
   pub frames : w'.frames ≡ w.frames
 
--- node i was opened again
-pub record Woke (w : World) (i : ℕ) (w' : World) : Type 0 where
+-- node i was opened again, with a table of homes
+pub record Woke (w : World) (i : ℕ) (homes : Table) (w' : World) : Type 0 where
   pub was : Site
   pub later : Site
   pub at : slice_get w.sites i ≡ Some was
-  pub reopens : Reopens was later
+  pub reopens : Reopens homes was later
   pub sites : w'.sites ≡ set w.sites i later
   pub frames : w'.frames ≡ w.frames
 
@@ -63,7 +64,7 @@ Came w (Lost i e acts) w' = Committed w i e acts w'
 Came w (Cut i) w' = Rests w w'
 Came w (Faulted i fault) w' = Rests w w'
 Came w (Was_down i) w' = Rests w w'
-Came w (Restarted i) w' = Woke w i w'
+Came w (Restarted i homes) w' = Woke w i homes w'
 
 still : (s : Site) → Stays s s
 still s = record { place = refl; homes = refl; rows = inl refl; up = λ h u. u }
@@ -118,7 +119,7 @@ module _ (w : World) (i : ℕ) (s : Site) (at : slice_get w.sites i ≡ Some s) 
   became (Cut j) w' b = rests (stopped s) w' (down s) b.2
   became (Faulted j fault) w' b = rests b.1.0 w' (stops s b.1.0 b.1.1) b.1.2
   became (Was_down j) w' b = record { sites = λ k k' h. (k', subst (λ (v : World). slice_get v.sites k ≡ Some k') b.2 h, still k'); frames = ap (λ (v : World). v.frames) b.2 }
-  became (Restarted j) w' b = record {
+  became (Restarted j homes) w' b = record {
     was = s;
     later = b.1.0;
     at = subst (λ k. slice_get w.sites k ≡ Some s) (sym b.0) at;
@@ -137,4 +138,4 @@ committed w step (Lost i d acts) w' e h is = subst (λ (v : Event). Committed w 
 committed w step (Cut i) w' e h is = none-some is
 committed w step (Faulted i fault) w' e h is = none-some is
 committed w step (Was_down i) w' e h is = none-some is
-committed w step (Restarted i) w' e h is = none-some is
+committed w step (Restarted i homes) w' e h is = none-some is

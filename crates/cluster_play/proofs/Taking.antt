@@ -96,7 +96,7 @@ gaining_commits (Lost i e acts) d h = (e, refl)
 gaining_commits (Cut i) d h = cc
 gaining_commits (Faulted i fault) d h = cc
 gaining_commits (Was_down i) d h = cc
-gaining_commits (Restarted i) d h = cc
+gaining_commits (Restarted i homes) d h = cc
 
 -- the bytes that an event brings are read as a frame for the node, which lists the dot
 pub record FrameLists (id : ℕ) (e : EventKind) (d : Dot) : Type 0 where

@@ -22,7 +22,7 @@ site (Lost i e acts) = i
 site (Cut i) = i
 site (Faulted i fault) = i
 site (Was_down i) = i
-site (Restarted i) = i
+site (Restarted i homes) = i
 
 -- the event that a step committed, if it did
 abbrev pub event_committed : Fate → Option Event
@@ -92,7 +92,7 @@ moment_in a = 0
 abbrev pub moves_of : Fate → List Move
 moves_of (Released i e acts outputs) = did acts
 moves_of (Lost i e acts) = did acts
-moves_of (Restarted i) = Reopened ∷ []
+moves_of (Restarted i homes) = Reopened homes ∷ []
 moves_of fate = []
 
 abbrev pub own_moves : ℕ → Fate → List Move
@@ -116,16 +116,16 @@ last_table t (u ∷ us) = last_table u us
 abbrev pub moment_after : ℕ → List Move → ℕ
 moment_after at [] = at
 moment_after at (Acted a ∷ moves) = moment_after (max at (moment_in a)) moves
-moment_after at (Reopened ∷ moves) = moment_after 0 moves
+moment_after at (Reopened homes ∷ moves) = moment_after 0 moves
 
 abbrev pub moment_amid : ℕ → List Played → List Act → ℕ
 moment_amid i run acts = moment_after 0 (moves_amid i run acts)
 
--- the table of homes that a node has after moves, from one on: the one that it took last
+-- the table of homes that a node has after moves, from one on: the one that it took last, or with which it was opened since
 abbrev pub homes_after : Table → List Move → Table
 homes_after t [] = t
 homes_after t (Acted a ∷ moves) = homes_after (last_table t (moved_in a)) moves
-homes_after t (Reopened ∷ moves) = homes_after t moves
+homes_after t (Reopened homes ∷ moves) = homes_after homes moves
 
 -- the node of a seat is new, with a table of homes for so many nodes, and its rows are its mark
 pub record IsNewSite (nodes i : ℕ) (s : Site) : Type 0 where

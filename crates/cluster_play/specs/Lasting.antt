@@ -45,20 +45,20 @@ pub record HeldLast (run : List Played) (start : World) (i : ℕ) (s : Site) (h 
   pub rows : AreOf s.node.place s.rows h
   pub up : (g : HeldView) → s.node.up ≡ Some g → g ≡ h
 
--- a node that is restarted holds what lasts of what it held last
-pub record WakesFrom (run : List Played) (start w : World) (i : ℕ) (h' : HeldView) : Type 0 where
+-- a node that is restarted holds its table of homes, and what lasts of what it held last
+pub record WakesFrom (run : List Played) (start w : World) (i : ℕ) (homes : Table) (h' : HeldView) : Type 0 where
   pub site : Site
   pub at : slice_get w.sites i ≡ Some site
   pub held : HeldView
   pub last : HeldLast run start i site held
-  pub woken : IsWoken held.homes (lasting held) h'
+  pub woken : IsWoken homes (lasting held) h'
 
 abbrev pub RestartsWithWhatLasts : Type 0
 RestartsWithWhatLasts =
-    (run : List Played) (w w' : World) (m : Played) (r : Reached run w) → Happens w m.step m.fate w' → (i : ℕ) → m.fate ≡ Restarted i
-    → (h' : HeldView) → Holds w' i h' → WakesFrom run r.start w i h'
+    (run : List Played) (w w' : World) (m : Played) (r : Reached run w) → Happens w m.step m.fate w' → (i : ℕ) (homes : Table) → m.fate ≡ Restarted i homes
+    → (h' : HeldView) → Holds w' i h' → WakesFrom run r.start w i homes h'
 
--- the table of homes of a node, also of one that is down, is the one that a committed step last gave it, or the one that it was first opened with
+-- the table of homes of a node, also of one that is down, is the last of those that its committed steps gave it and with which it was opened, the first time and again
 abbrev pub KeepsItsTable : Type 0
 KeepsItsTable =
     (run : List Played) (w : World) (r : Reached run w) (i : ℕ) (s : Site) → slice_get w.sites i ≡ Some s

@@ -32,7 +32,7 @@ frames_released (Lost i e acts) = []
 frames_released (Cut i) = []
 frames_released (Faulted i fault) = []
 frames_released (Was_down i) = []
-frames_released (Restarted i) = []
+frames_released (Restarted i homes) = []
 
 -- the line of what goes to a client
 abbrev pub client_line : ℕ → Output → List Line
@@ -56,7 +56,7 @@ lines_of given (Lost i e acts) = lines.Crash i ∷ []
 lines_of given (Cut i) = lines.Crash i ∷ []
 lines_of given (Faulted i fault) = lines.Fault i fault ∷ []
 lines_of given (Was_down i) = lines.Down i ∷ []
-lines_of given (Restarted i) = []
+lines_of given (Restarted i homes) = []
 
 -- the lines of a run
 abbrev pub printed : ℕ → List Played → List Line

@@ -5,7 +5,7 @@ use Rattle.broker_sockets.specs.declared.events.Output.{Output}
 use Rattle.door_guard.specs.Faults.{IsRefusing, IsStopped}
 use Rattle.door_packets.specs.Rights.{Rights}
 use Rattle.door_guard.specs.Stages.{Notice}
-use Rattle.door_guard.specs.Telling.{AreDone, AreTold, IsMet, Told}
+use Rattle.door_guard.specs.Telling.{AreDone, AreTold, IsMet, Ledger, Told}
 use Rattle.door_guard.specs.declared.clients.Clients.{Clients}
 use Rattle.door_guard.specs.declared.fault.GuardFault.{GuardFault}
 use Rattle.door_guard.specs.declared.fault.GuardFault.TheVariants.{NoMemory, Inside}
@@ -26,10 +26,10 @@ module _ {H F : Type 0} (handles : H → Event → List Output → H → Type 0)
     refused = s.refused;
   }
 
-  pub stopped_steps : (r : Rights) (moment c : ℕ) (did : List Step) (fault : GuardFault F) (h m h' : H) (k l : Clients) (o p : List Output) → AreDone handles r moment c did h m k l o p
+  pub stopped_steps : (r : Rights) (moment c : ℕ) (did : List Step) (fault : GuardFault F) (h m h' : H) (k l : Clients) (o p : Ledger) → AreDone handles r moment c did h m k l o p
       → IsStopped handles refuses m h' fault → IsStopped handles refuses h h' fault
   stopped_steps r moment c did fault h m h' k l o p d s = stopped_then (d.part []).calls fault h m h' (d.part []).told s
 
-  pub stopped_met : (r : Rights) (moment : ℕ) (met : ℕ → List Notice) (fault : GuardFault F) (h m h' : H) (k l : Clients) (o p : List Output) → IsMet handles r moment met h m k l o p
+  pub stopped_met : (r : Rights) (moment : ℕ) (met : ℕ → List Notice) (fault : GuardFault F) (h m h' : H) (k l : Clients) (o p : Ledger) → IsMet handles r moment met h m k l o p
       → IsStopped handles refuses m h' fault → IsStopped handles refuses h h' fault
   stopped_met r moment met fault h m h' k l o p d s = stopped_then d.part.calls fault h m h' d.part.told s

@@ -1,10 +1,10 @@
 -- Without users.
-use Rattle.std.proofs.Common.{List, Option, sym, subst, ◌∙◌}
+use Rattle.std.proofs.Common.{List, Option, ap, sym, subst, ◌∙◌}
 use Rattle.broker_sockets.specs.declared.bridge.Given.{Given}
 use Rattle.broker_sockets.specs.declared.bridge.PeerEvent.{PeerEvent}
 use Rattle.broker_sockets.specs.declared.events.Event.{Event}
 use Rattle.broker_sockets.specs.declared.events.Output.{Output}
-use Rattle.door_guard.specs.Answering.{IsAnswered, IsAnsweredIf, IsHeard, IsHeardIf, IsSettled}
+use Rattle.door_guard.specs.Answering.{IsAnswered, IsAnsweredIf, IsHeard, IsHeardIf, IsSettled, refusals_of}
 use Rattle.door_guard.specs.Faults.{IsCutOff, IsDeclined, IsDeclinedIf, IsRefused, IsRefusedIf}
 use Rattle.door_guard.specs.Laws.{NoUsersChangeNothing, NoUsersNoFaults}
 use Rattle.door_packets.specs.Rights.{Rights}
@@ -21,6 +21,7 @@ module _ {H A : Type 0} (handles : H → Event → List Output → H → Type 0)
         let As : Option (Door A) → Type 0 = λ o. IsHeardIf hears rights o d'.door e d.inside d'.inside given in
         (λ a. subst As none a, λ a. subst As (sym none) a);
     settled = λ d d' none. (λ a. (a.0, a.1 ∙ none), λ a. (a.0, a.1 ∙ sym none));
+    counted = λ d none. ap (λ (o : Option (Door A)). refusals_of o) none;
   }
 
 module _ {H A F : Type 0} (handles : H → Event → List Output → H → Type 0) (refuses : H → Event → F → H → Type 0) (declines : H → PeerEvent → F → H → Type 0) (stops : H → F → H → Type 0) where

@@ -9,13 +9,15 @@ use Rattle.broker_sockets.specs.declared.events.Event.{Event}
 use Rattle.broker_sockets.specs.declared.events.Output.{Output}
 use Rattle.broker_sockets.specs.declared.events.Output.TheVariants.{Send, Close}
 use Rattle.door_guard.specs.Clients.{IsBut, client_of}
+use Rattle.door_guard.specs.Counts.{Refusal, Refused, all_counted, counted, refused_on, refused_one, with_one}
 use Rattle.door_packets.specs.Rights.{Rights}
 use Rattle.door_packets.specs.Sending.{Buffer}
-use Rattle.door_guard.specs.Stages.{AreSaid, Doing, Effect, Happening, Held, IsOrderly, IsPath, Notice, Outgoing, Said, at, effect, given_in, given_one, held_after, held_by, idle, met_in, met_one, none_busy, noted, of_output, on, out_in, staged, todo_of, told_in}
+use Rattle.door_guard.specs.Stages.{AreSaid, Doing, Effect, Happening, Held, IsOrderly, IsPath, Notice, Outgoing, Said, at, effect, given_in, given_one, held_after, held_by, idle, met_in, met_one, none_busy, noted, of_output, on, out_in, refused_at, refused_in, staged, todo_of, told_in}
 use Rattle.door_guard.specs.Stages.Outgoing.{Bytes, End}
-use Rattle.door_guard.specs.Telling.{ArePaths, AreTold, IsPart, Stages, Told, given_by, none, noted_in}
+use Rattle.door_guard.specs.Telling.{ArePaths, AreTold, IsPart, Ledger, Stages, Told, given_by, none, noted_in}
 use Rattle.door_packets.specs.declared.client.Client.{Client}
 use Rattle.door_guard.specs.declared.clients.Clients.{Clients}
+use Rattle.door_guard.specs.declared.counts.Refusals.{Refusals}
 
 -- ---- one behind the other
 
@@ -41,6 +43,12 @@ out_then r s (h ∷ hs) gs =
     ap (λ (os : List Outgoing). (effect r s h).out ++ os) (out_then r (effect r s h).held hs gs)
     ∙ sym (append_assoc (effect r s h).out (out_in r (effect r s h).held hs) (out_in r (held_after r (effect r s h).held hs) gs))
 
+refused_then : (r : Rights) (s : Option Held) (hs gs : List Happening) → refused_in r s (hs ++ gs) ≡ refused_in r s hs ++ refused_in r (held_after r s hs) gs
+refused_then r s [] gs = refl
+refused_then r s (h ∷ hs) gs =
+    ap (λ (xs : List Refusal). refused_at r s h ++ xs) (refused_then r (effect r s h).held hs gs)
+    ∙ sym (append_assoc (refused_at r s h) (refused_in r (effect r s h).held hs) (refused_in r (held_after r (effect r s h).held hs) gs))
+
 orderly_then : (r : Rights) (s : Option Held) (hs gs : List Happening) → IsOrderly r s hs → IsOrderly r (held_after r s hs) gs → IsOrderly r s (hs ++ gs)
 orderly_then r s [] gs a b = b
 orderly_then r s (h ∷ hs) gs a b = (a.0, orderly_then r (effect r s h).held hs gs a.1 b)
@@ -48,12 +56,15 @@ orderly_then r s (h ∷ hs) gs a b = (a.0, orderly_then r (effect r s h).held hs
 pub on_then : (q : ℕ) (xs ys : List Output) → on q (xs ++ ys) ≡ on q xs ++ on q ys
 on_then q xs ys = flat_map-append (of_output q) xs ys
 
-pub path_none : (r : Rights) (q : ℕ) (s : Option Held) (o : List Output) → IsPath r q s s [] [] [] o o
-path_none r q s o = record { happenings = []; held = refl; orderly = tt; comes = refl; tells = tt; gives = refl; goes = sym (append-nil (on q o)) }
+refused_both : (q : ℕ) (xs ys : List Refused) → refused_on q (xs ++ ys) ≡ refused_on q xs ++ refused_on q ys
+refused_both q xs ys = flat_map-append (refused_one q) xs ys
 
-pub path_then : (r : Rights) (q : ℕ) (s m s' : Option Held) (met met' told told' : List Notice) (given given' o p x : List Output)
-    → IsPath r q s m met told given o p → IsPath r q m s' met' told' given' p x → IsPath r q s s' (met ++ met') (told ++ told') (given ++ given') o x
-path_then r q s m s' met met' told told' given given' o p x a b =
+pub path_none : (r : Rights) (q : ℕ) (s : Option Held) (o : List Output) → IsPath r q s s [] [] [] [] o o
+path_none r q s o = record { happenings = []; held = refl; orderly = tt; comes = refl; tells = tt; gives = refl; refuses = refl; goes = sym (append-nil (on q o)) }
+
+pub path_then : (r : Rights) (q : ℕ) (s m s' : Option Held) (met met' told told' : List Notice) (given given' : List Output) (refused refused' : List Refused) (o p x : List Output)
+    → IsPath r q s m met told given refused o p → IsPath r q m s' met' told' given' refused' p x → IsPath r q s s' (met ++ met') (told ++ told') (given ++ given') (refused ++ refused') o x
+path_then r q s m s' met met' told told' given given' refused refused' o p x a b =
     let hs = a.happenings in
     let gs = b.happenings in
     let behind : held_after r m gs ≡ held_after r (held_after r s hs) gs = ap (λ (y : Option Held). held_after r y gs) a.held in
@@ -68,84 +79,117 @@ path_then r q s m s' met met' told told' given given' o p x a b =
       gives =
           flat_map-append given_one hs gs ∙ ap (λ (xs : List Outgoing). xs ++ given_in gs) a.gives ∙ ap (λ (xs : List Outgoing). on q given ++ xs) b.gives
           ∙ sym (on_then q given given');
+      refuses =
+          refused_both q refused refused' ∙ ap (λ (xs : List Refusal). xs ++ refused_on q refused') a.refuses ∙ ap (λ (xs : List Refusal). refused_in r s hs ++ xs) b.refuses
+          ∙ ap (λ (y : Option Held). refused_in r s hs ++ refused_in r y gs) a.held ∙ sym (refused_then r s hs gs);
       goes =
           b.goes ∙ ap (λ (xs : List Outgoing). xs ++ out_in r m gs) a.goes ∙ append_assoc (on q o) (out_in r s hs) (out_in r m gs)
           ∙ ap (λ (y : Option Held). on q o ++ (out_in r s hs ++ out_in r y gs)) a.held ∙ ap (λ (xs : List Outgoing). on q o ++ xs) (sym (out_then r s hs gs));
     }
 
-path_one : (r : Rights) (q : ℕ) (s : Option Held) (h : Happening) (met told : List Notice) (given o p : List Output) → ((met_one h ≡ [] → ⊥) → todo_of s ≡ []) → met_one h ≡ met
-    → AreSaid (effect r s h).told told → given_one h ≡ on q given → on q p ≡ on q o ++ (effect r s h).out → IsPath r q s (effect r s h).held met told given o p
-path_one r q s h met told given o p ordered meets tells gives goes = record {
+path_one : (r : Rights) (q : ℕ) (s : Option Held) (h : Happening) (met told : List Notice) (given : List Output) (refused : List Refused) (o p : List Output) → ((met_one h ≡ [] → ⊥) → todo_of s ≡ []) → met_one h ≡ met
+    → AreSaid (effect r s h).told told → given_one h ≡ on q given → refused_on q refused ≡ refused_at r s h → on q p ≡ on q o ++ (effect r s h).out → IsPath r q s (effect r s h).held met told given refused o p
+path_one r q s h met told given refused o p ordered meets tells gives refuses goes = record {
   happenings = h ∷ [];
   held = refl;
   orderly = (ordered, tt);
   comes = append-nil (met_one h) ∙ meets;
   tells = subst (λ (ns : List Said). AreSaid ns told) (sym (append-nil (effect r s h).told)) tells;
   gives = append-nil (given_one h) ∙ gives;
+  refuses = refuses ∙ sym (append-nil (refused_at r s h));
   goes = goes ∙ ap (λ (xs : List Outgoing). on q o ++ xs) (sym (append-nil (effect r s h).out));
 }
 
 -- ---- one thing on one connection
 
 -- nothing of it is for this one
-pub record IsApart (q : ℕ) (met told : List Notice) (given o p : List Output) : Type 0 where
+pub record IsApart (q : ℕ) (met told : List Notice) (given : List Output) (refused : List Refused) (o p : List Output) : Type 0 where
   pub meets : met ≡ []
   pub tells : told ≡ []
   pub gives : on q given ≡ []
+  pub refuses : refused_on q refused ≡ []
   pub goes : on q p ≡ on q o
 
 nothing_said : (told : List Notice) → told ≡ [] → AreSaid [] told
 nothing_said told none = subst (AreSaid []) (sym none) tt
 
-apart_path : (r : Rights) (q : ℕ) (s s' : Option Held) (met told : List Notice) (given o p : List Output) → s' ≡ s → IsApart q met told given o p → IsPath r q s s' met told given o p
-apart_path r q s s' met told given o p same a = record {
+apart_path : (r : Rights) (q : ℕ) (s s' : Option Held) (met told : List Notice) (given : List Output) (refused : List Refused) (o p : List Output) → s' ≡ s → IsApart q met told given refused o p → IsPath r q s s' met told given refused o p
+apart_path r q s s' met told given refused o p same a = record {
   happenings = [];
   held = same;
   orderly = tt;
   comes = sym a.meets;
   tells = nothing_said told a.tells;
   gives = sym a.gives;
+  refuses = a.refuses;
   goes = a.goes ∙ sym (append-nil (on q o));
 }
 
-module _ (r : Rights) (c : ℕ) (h : Happening) (e : Effect) (s s' : Stages) (met told : ℕ → List Notice) (given o p : List Output) where
+module _ (r : Rights) (c : ℕ) (h : Happening) (e : Effect) (s s' : Stages) (met told : ℕ → List Notice) (given : List Output) (refused : List Refused) (o p : List Output) where
   one_at : (q : ℕ) (b : Bool) → (c == q) ≡ b → s' c ≡ (effect r (s c) h).held → ((x : ℕ) → (c == x) ≡ false → s' x ≡ s x)
-      → IsPath r c (s c) (effect r (s c) h).held (met c) (told c) given o p → ((c == q) ≡ false → IsApart q (met q) (told q) given o p) → IsPath r q (s q) (s' q) (met q) (told q) given o p
+      → IsPath r c (s c) (effect r (s c) h).held (met c) (told c) given refused o p → ((c == q) ≡ false → IsApart q (met q) (told q) given refused o p) → IsPath r q (s q) (s' q) (met q) (told q) given refused o p
   one_at q true is here there path apart =
-      let at_it : IsPath r c (s c) (s' c) (met c) (told c) given o p = subst (λ (x : Option Held). IsPath r c (s c) x (met c) (told c) given o p) (sym here) path in
-      subst (λ (n : ℕ). IsPath r n (s n) (s' n) (met n) (told n) given o p) (eqb-true c q is) at_it
-  one_at q false is here there path apart = apart_path r q (s q) (s' q) (met q) (told q) given o p (there q is) (apart is)
+      let at_it : IsPath r c (s c) (s' c) (met c) (told c) given refused o p = subst (λ (x : Option Held). IsPath r c (s c) x (met c) (told c) given refused o p) (sym here) path in
+      subst (λ (n : ℕ). IsPath r n (s n) (s' n) (met n) (told n) given refused o p) (eqb-true c q is) at_it
+  one_at q false is here there path apart = apart_path r q (s q) (s' q) (met q) (told q) given refused o p (there q is) (apart is)
 
   -- what comes of it is this
   pub one : effect r (s c) h ≡ e → s' c ≡ e.held → ((x : ℕ) → (c == x) ≡ false → s' x ≡ s x) → ((met_one h ≡ [] → ⊥) → todo_of (s c) ≡ []) → met_one h ≡ met c → AreSaid e.told (told c) → given_one h ≡ on c given
-      → on c p ≡ on c o ++ e.out → ((q : ℕ) → (c == q) ≡ false → IsApart q (met q) (told q) given o p) → ArePaths r met told given s s' o p
-  one is here there ordered meets tells gives goes apart q =
+      → refused_on c refused ≡ refused_at r (s c) h → on c p ≡ on c o ++ e.out → ((q : ℕ) → (c == q) ≡ false → IsApart q (met q) (told q) given refused o p) → ArePaths r met told given refused s s' o p
+  one is here there ordered meets tells gives refuses goes apart q =
       let said : AreSaid (effect r (s c) h).told (told c) = subst (λ (x : Effect). AreSaid x.told (told c)) (sym is) tells in
       let sent : on c p ≡ on c o ++ (effect r (s c) h).out = goes ∙ ap (λ (x : Effect). on c o ++ x.out) (sym is) in
-      one_at q (c == q) refl (here ∙ ap (λ (x : Effect). x.held) (sym is)) there (path_one r c (s c) h (met c) (told c) given o p ordered meets said gives sent) (apart q)
+      one_at q (c == q) refl (here ∙ ap (λ (x : Effect). x.held) (sym is)) there (path_one r c (s c) h (met c) (told c) given refused o p ordered meets said gives refuses sent) (apart q)
 
-pub paths_none : (r : Rights) (s : Stages) (o : List Output) → ArePaths r none none [] s s o o
+pub paths_none : (r : Rights) (s : Stages) (o : List Output) → ArePaths r none none [] [] s s o o
 paths_none r s o q = path_none r q (s q) o
 
-pub paths_then : (r : Rights) (s m s' : Stages) (met met' told told' : ℕ → List Notice) (given given' o p x : List Output)
-    → ArePaths r met told given s m o p → ArePaths r met' told' given' m s' p x → ArePaths r (λ q. met q ++ met' q) (λ q. told q ++ told' q) (given ++ given') s s' o x
-paths_then r s m s' met met' told told' given given' o p x a b q =
-    path_then r q (s q) (m q) (s' q) (met q) (met' q) (told q) (told' q) given given' o p x (a q) (b q)
+pub paths_then : (r : Rights) (s m s' : Stages) (met met' told told' : ℕ → List Notice) (given given' : List Output) (refused refused' : List Refused) (o p x : List Output)
+    → ArePaths r met told given refused s m o p → ArePaths r met' told' given' refused' m s' p x → ArePaths r (λ q. met q ++ met' q) (λ q. told q ++ told' q) (given ++ given') (refused ++ refused') s s' o x
+paths_then r s m s' met met' told told' given given' refused refused' o p x a b q =
+    path_then r q (s q) (m q) (s' q) (met q) (met' q) (told q) (told' q) given given' refused refused' o p x (a q) (b q)
 
 -- with other words for the same
-pub paths_as : (r : Rights) (s s' : Stages) (met met' told told' : ℕ → List Notice) (given given' o p : List Output) → ((q : ℕ) → met q ≡ met' q) → ((q : ℕ) → told q ≡ told' q) → given ≡ given'
-    → ArePaths r met told given s s' o p → ArePaths r met' told' given' s s' o p
-paths_as r s s' met met' told told' given given' o p e f g a q =
-    let first : IsPath r q (s q) (s' q) (met' q) (told q) given o p = subst (λ (m : List Notice). IsPath r q (s q) (s' q) m (told q) given o p) (e q) (a q) in
-    let second : IsPath r q (s q) (s' q) (met' q) (told' q) given o p = subst (λ (t : List Notice). IsPath r q (s q) (s' q) (met' q) t given o p) (f q) first in
-    subst (λ (x : List Output). IsPath r q (s q) (s' q) (met' q) (told' q) x o p) g second
+pub paths_as : (r : Rights) (s s' : Stages) (met met' told told' : ℕ → List Notice) (given given' : List Output) (refused : List Refused) (o p : List Output) → ((q : ℕ) → met q ≡ met' q) → ((q : ℕ) → told q ≡ told' q) → given ≡ given'
+    → ArePaths r met told given refused s s' o p → ArePaths r met' told' given' refused s s' o p
+paths_as r s s' met met' told told' given given' refused o p e f g a q =
+    let first : IsPath r q (s q) (s' q) (met' q) (told q) given refused o p = subst (λ (m : List Notice). IsPath r q (s q) (s' q) m (told q) given refused o p) (e q) (a q) in
+    let second : IsPath r q (s q) (s' q) (met' q) (told' q) given refused o p = subst (λ (t : List Notice). IsPath r q (s q) (s' q) (met' q) t given refused o p) (f q) first in
+    subst (λ (x : List Output). IsPath r q (s q) (s' q) (met' q) (told' q) x refused o p) g second
 
 -- from and to other names of the same stages
-pub paths_at : (r : Rights) (s t s' t' : Stages) (met told : ℕ → List Notice) (given o p : List Output) → ((q : ℕ) → s q ≡ t q) → ((q : ℕ) → s' q ≡ t' q)
-    → ArePaths r met told given s s' o p → ArePaths r met told given t t' o p
-paths_at r s t s' t' met told given o p e f a q =
-    let first : IsPath r q (t q) (s' q) (met q) (told q) given o p = subst (λ (x : Option Held). IsPath r q x (s' q) (met q) (told q) given o p) (e q) (a q) in
-    subst (λ (x : Option Held). IsPath r q (t q) x (met q) (told q) given o p) (f q) first
+pub paths_at : (r : Rights) (s t s' t' : Stages) (met told : ℕ → List Notice) (given : List Output) (refused : List Refused) (o p : List Output) → ((q : ℕ) → s q ≡ t q) → ((q : ℕ) → s' q ≡ t' q)
+    → ArePaths r met told given refused s s' o p → ArePaths r met told given refused t t' o p
+paths_at r s t s' t' met told given refused o p e f a q =
+    let first : IsPath r q (t q) (s' q) (met q) (told q) given refused o p = subst (λ (x : Option Held). IsPath r q x (s' q) (met q) (told q) given refused o p) (e q) (a q) in
+    subst (λ (x : Option Held). IsPath r q (t q) x (met q) (told q) given refused o p) (f q) first
+
+-- ---- what is refused
+
+-- on one connection
+abbrev pub tagged : ℕ → List Refusal → List Refused
+tagged c [] = []
+tagged c (x ∷ xs) = (c, x) ∷ tagged c xs
+
+pub tagged_here : (c : ℕ) (xs : List Refusal) → refused_on c (tagged c xs) ≡ xs
+tagged_here c [] = refl
+tagged_here c (x ∷ xs) = ap (λ (b : Bool). cond b (x ∷ []) [] ++ refused_on c (tagged c xs)) (eq-eqb c c refl) ∙ ap (λ (ys : List Refusal). x ∷ ys) (tagged_here c xs)
+
+pub tagged_there : (c q : ℕ) (xs : List Refusal) → (c == q) ≡ false → refused_on q (tagged c xs) ≡ []
+tagged_there c q [] e = refl
+tagged_there c q (x ∷ xs) e = ap (λ (b : Bool). cond b (x ∷ []) [] ++ refused_on q (tagged c xs)) e ∙ tagged_there c q xs e
+
+pub tagged_counted : (c : ℕ) (xs : List Refusal) (n : Refusals) → all_counted (tagged c xs) n ≡ counted xs n
+tagged_counted c [] n = refl
+tagged_counted c (x ∷ xs) n = tagged_counted c xs (with_one x n)
+
+counted_then : (xs ys : List Refused) (n : Refusals) → all_counted (xs ++ ys) n ≡ all_counted ys (all_counted xs n)
+counted_then [] ys n = refl
+counted_then (x ∷ xs) ys n = counted_then xs ys (with_one x.1 n)
+
+-- some and then others
+pub counts_then : (xs ys : List Refused) (n m l : Refusals) → m ≡ all_counted xs n → l ≡ all_counted ys m → l ≡ all_counted (xs ++ ys) n
+counts_then xs ys n m l a b = b ∙ ap (all_counted ys) a ∙ sym (counted_then xs ys n)
 
 -- ---- its cases
 
@@ -221,26 +265,30 @@ module _ {H : Type 0} (handles : H → Event → List Output → H → Type 0) w
 
   module _ (r : Rights) (moment : ℕ) where
     -- nothing is told
-    pub part_quiet : (met : ℕ → List Notice) (s s' : Stages) (h : H) (o p : List Output) → ArePaths r met none [] s s' o p → IsPart handles r moment met s s' h h o p
-    part_quiet met s s' h o p paths = record { calls = []; told = refl; moments = tt; paths = paths }
+    pub part_quiet : (met : ℕ → List Notice) (refused : List Refused) (s s' : Stages) (h : H) (o p : Ledger) → p.0 ≡ all_counted refused o.0 → ArePaths r met none [] refused s s' o.1 p.1 → IsPart handles r moment met s s' h h o p
+    part_quiet met refused s s' h o p counts paths = record { calls = []; refused = refused; told = refl; moments = tt; counts = counts; paths = paths }
 
-    pub part_then : (met met' : ℕ → List Notice) (s m s' : Stages) (h i h' : H) (o p x : List Output) → IsPart handles r moment met s m h i o p → IsPart handles r moment met' m s' i h' p x
+    pub part_then : (met met' : ℕ → List Notice) (s m s' : Stages) (h i h' : H) (o p x : Ledger) → IsPart handles r moment met s m h i o p → IsPart handles r moment met' m s' i h' p x
         → IsPart handles r moment (λ q. met q ++ met' q) s s' h h' o x
     part_then met met' s m s' h i h' o p x a b = record {
       calls = a.calls ++ b.calls;
+      refused = a.refused ++ b.refused;
       told = calls_then a.calls b.calls h i h' a.told b.told;
       moments = all_then (λ (t : Told). t.0.at ≡ moment) a.calls b.calls a.moments b.moments;
-      paths = paths_as r s s' (λ q. met q ++ met' q) (λ q. met q ++ met' q) (λ q. noted_in q a.calls ++ noted_in q b.calls) (λ q. noted_in q (a.calls ++ b.calls)) (given_by a.calls ++ given_by b.calls) (given_by (a.calls ++ b.calls)) o x
+      counts = counts_then a.refused b.refused o.0 p.0 x.0 a.counts b.counts;
+      paths = paths_as r s s' (λ q. met q ++ met' q) (λ q. met q ++ met' q) (λ q. noted_in q a.calls ++ noted_in q b.calls) (λ q. noted_in q (a.calls ++ b.calls)) (given_by a.calls ++ given_by b.calls) (given_by (a.calls ++ b.calls)) (a.refused ++ b.refused) o.1 x.1
           (λ q. refl) (λ q. sym (noted_then q a.calls b.calls)) (sym (given_then a.calls b.calls))
-          (paths_then r s m s' met met' (λ q. noted_in q a.calls) (λ q. noted_in q b.calls) (given_by a.calls) (given_by b.calls) o p x a.paths b.paths);
+          (paths_then r s m s' met met' (λ q. noted_in q a.calls) (λ q. noted_in q b.calls) (given_by a.calls) (given_by b.calls) a.refused b.refused o.1 p.1 x.1 a.paths b.paths);
     }
 
-    pub part_as : (met met' : ℕ → List Notice) (s t s' t' : Stages) (h h' : H) (o p : List Output) → ((q : ℕ) → met q ≡ met' q) → ((q : ℕ) → s q ≡ t q) → ((q : ℕ) → s' q ≡ t' q)
+    pub part_as : (met met' : ℕ → List Notice) (s t s' t' : Stages) (h h' : H) (o p : Ledger) → ((q : ℕ) → met q ≡ met' q) → ((q : ℕ) → s q ≡ t q) → ((q : ℕ) → s' q ≡ t' q)
         → IsPart handles r moment met s s' h h' o p → IsPart handles r moment met' t t' h h' o p
     part_as met met' s t s' t' h h' o p e f g a = record {
       calls = a.calls;
+      refused = a.refused;
       told = a.told;
       moments = a.moments;
-      paths = paths_as r t t' met met' (λ q. noted_in q a.calls) (λ q. noted_in q a.calls) (given_by a.calls) (given_by a.calls) o p e (λ q. refl) refl
-          (paths_at r s t s' t' met (λ q. noted_in q a.calls) (given_by a.calls) o p f g a.paths);
+      counts = a.counts;
+      paths = paths_as r t t' met met' (λ q. noted_in q a.calls) (λ q. noted_in q a.calls) (given_by a.calls) (given_by a.calls) a.refused o.1 p.1 e (λ q. refl) refl
+          (paths_at r s t s' t' met (λ q. noted_in q a.calls) (given_by a.calls) a.refused o.1 p.1 f g a.paths);
     }

@@ -8,15 +8,15 @@ use Rattle.door_guard.specs.Counts.{none_refused}
 use Rattle.door_packets.specs.Rights.{Rights}
 use Rattle.door_guard.specs.Stages.{noted}
 use Rattle.door_guard.specs.Telling.{AreGiven, IsMet}
-use Rattle.door_guard.specs.declared.clients.Clients.{Clients}
 use Rattle.door_guard.specs.declared.counts.Refusals.{Refusals}
 use Rattle.door_guard.specs.declared.door.Door.{Door}
 use Rattle.door_guard.specs.declared.guarded.Guarded.{Guarded}
+use Rattle.door_guard.specs.declared.known.Known.{Known}
 
 module _ {H A : Type 0} (handles : H → Event → List Output → H → Type 0) (rights : A → Rights) where
   -- the handler inside is told what its clients may do, and who may do what stays
   abbrev pub IsGuarded : Event → H → H → Door A → Door A → List Output → Type 0
-  IsGuarded e h h' k k' outputs = IsMet handles (rights k.access) e.at (λ q. noted q e.kind) h h' k.known.clients k'.known.clients [] outputs × (k'.access ≡ k.access)
+  IsGuarded e h h' k k' outputs = IsMet handles (rights k.access) e.at (λ q. noted q e.kind) h h' k.known.clients k'.known.clients (k.known.refusals, []) (k'.known.refusals, outputs) × (k'.access ≡ k.access)
 
   abbrev pub IsAnsweredIf : Option (Door A) → Option (Door A) → Event → H → H → List Output → Type 0
   IsAnsweredIf None k' e h h' outputs = handles h e outputs h' × (k' ≡ None)
@@ -30,17 +30,17 @@ module _ {H A : Type 0} (handles : H → Event → List Output → H → Type 0)
 -- ---- what other nodes bring about, and settling
 
 -- the handler inside is told it as it is
-pub record IsPassedOn {H : Type 0} (hears : H → PeerEvent → Given → H → Type 0) (r : Rights) (e : PeerEvent) (h h' : H) (k k' : Clients) (given : Given) : Type 0 where
+pub record IsPassedOn {H : Type 0} (hears : H → PeerEvent → Given → H → Type 0) (r : Rights) (e : PeerEvent) (h h' : H) (k k' : Known) (given : Given) : Type 0 where
   pub first : Given
   pub heard : hears h e first h'
   pub frames : given.frames ≡ first.frames
-  pub gives : AreGiven r 0 None first.outputs.items k k' [] given.outputs.items
+  pub gives : AreGiven r 0 None first.outputs.items k.clients k'.clients (k.refusals, []) (k'.refusals, given.outputs.items)
 
 module _ {H A : Type 0} (hears : H → PeerEvent → Given → H → Type 0) (rights : A → Rights) where
   abbrev pub IsHeardIf : Option (Door A) → Option (Door A) → PeerEvent → H → H → Given → Type 0
   IsHeardIf None k' e h h' given = hears h e given h' × (k' ≡ None)
   IsHeardIf (Some k) None e h h' given = ⊥
-  IsHeardIf (Some k) (Some k') e h h' given = IsPassedOn hears (rights k.access) e h h' k.known.clients k'.known.clients given × (k'.access ≡ k.access)
+  IsHeardIf (Some k) (Some k') e h h' given = IsPassedOn hears (rights k.access) e h h' k.known k'.known given × (k'.access ≡ k.access)
 
   abbrev pub IsHeard : Guarded H A → PeerEvent → Given → Guarded H A → Type 0
   IsHeard d e given d' = IsHeardIf d.door d'.door e d.inside d'.inside given

@@ -12,13 +12,15 @@ use Rattle.mqtt_packets.specs.declared.packet.Packet.TheVariants as packets
 use Rattle.mqtt_packets.specs.declared.publish.Publish.{Publish}
 use Rattle.mqtt_bounds.specs.Pieces.{cut, front_at}
 use Rattle.mqtt_bounds.specs.declared.front.Front.TheVariants as fronts
+use Rattle.door_guard.specs.Answering.{refusals_of}
 use Rattle.door_guard.specs.Calls.{AreMade, Call, given_of, noted_of}
 use Rattle.door_guard.specs.Clients.{client_of}
+use Rattle.door_guard.specs.Counts.{Refused, all_counted, none_refused, refused_on}
 use Rattle.door_guard.specs.Replies.{IsAnswer}
 use Rattle.door_packets.specs.Packets.{has_topic, is_will_allowed}
 use Rattle.door_packets.specs.Packets.{login_of as names_of}
 use Rattle.door_packets.specs.Rights.{Rights}
-use Rattle.door_guard.specs.Stages.{AreSaid, Happening, Held, IsOrderly, Outgoing, Said, effect, given_in, held_after, met_in, on, out_in, todo_of, told_in}
+use Rattle.door_guard.specs.Stages.{AreSaid, Happening, Held, IsOrderly, Outgoing, Said, effect, given_in, held_after, met_in, on, out_in, refused_in, todo_of, told_in}
 use Rattle.door_guard.specs.Stages.Happening.{Opens, Comes}
 use Rattle.door_guard.specs.Stages.Notice.{Piece}
 use Rattle.door_guard.specs.Stages.Outgoing.{Bytes, End}
@@ -41,6 +43,7 @@ module _ {H A : Type 0} (handles : H → Event → List Output → H → Type 0)
     pub handled : (d d' : Guarded H A) (e : Event) (outputs : List Output) → d.door ≡ None → handles' d e outputs d' ↔ (handles d.inside e outputs d'.inside × (d'.door ≡ None))
     pub heard : (d d' : Guarded H A) (e : PeerEvent) (given : Given) → d.door ≡ None → hears' d e given d' ↔ (hears d.inside e given d'.inside × (d'.door ≡ None))
     pub settled : (d d' : Guarded H A) → d.door ≡ None → settles' d d' ↔ (settles d.inside d'.inside × (d'.door ≡ None))
+    pub counted : (d : Guarded H A) → d.door ≡ None → refusals_of d.door ≡ none_refused
 
 module _ {H A F : Type 0} (refuses : H → Event → F → H → Type 0) (declines : H → PeerEvent → F → H → Type 0) (stops : H → F → H → Type 0)
     (refuses' : Guarded H A → Event → GuardFault F → Guarded H A → Type 0) (declines' : Guarded H A → PeerEvent → GuardFault F → Guarded H A → Type 0)
@@ -57,24 +60,27 @@ module _ {H A F : Type 0} (refuses : H → Event → F → H → Type 0) (declin
 
 -- Of one connection, from before its first event: what happened on it. The events that came are those of these calls, and what was given is what the handler
 -- inside gave in its own. All that is to be done for an event is done before the next one comes, and before the last call ends. Then this is what the handler
--- inside was told, and what went out.
-pub record IsFollowed (r : Rights) (q : ℕ) (calls inside : List Call) : Type 0 where
+-- inside was told, what was refused, and what went out.
+pub record IsFollowed (r : Rights) (q : ℕ) (calls inside : List Call) (refused : List Refused) : Type 0 where
   pub happenings : List Happening
   pub met : met_in happenings ≡ noted_of q calls
   pub given : given_in happenings ≡ on q (given_of inside)
   pub orderly : IsOrderly r None happenings
   pub done : todo_of (held_after r None happenings) ≡ []
   pub told : AreSaid (told_in r None happenings) (noted_of q inside)
+  pub refuses : refused_on q refused ≡ refused_in r None happenings
   pub out : on q (given_of calls) ≡ out_in r None happenings
 
 module _ {H A : Type 0} (handles : H → Event → List Output → H → Type 0) (hears : H → PeerEvent → Given → H → Type 0) (settles : H → H → Type 0) (rights : A → Rights)
     (handles' : Guarded H A → Event → List Output → Guarded H A → Type 0) (hears' : Guarded H A → PeerEvent → Given → Guarded H A → Type 0)
     (settles' : Guarded H A → Guarded H A → Type 0) where
-  -- whatever calls are made, from where no connection is open, they are calls of the handler inside, and each connection is followed
+  -- whatever calls are made, from where no connection is open, they are calls of the handler inside, each connection is followed, and just what was refused on
+  -- one of them is counted
   abbrev pub EachIsFollowed : Type 0
   EachIsFollowed =
       (calls : List Call) (d d' : Guarded H A) (k : Door A) → d.door ≡ Some k → ((q : ℕ) → client_of k.known.clients q ≡ None) → AreMade handles' hears' settles' calls d d'
-      → (inside : List Call) × AreMade handles hears settles inside d.inside d'.inside × ((q : ℕ) → IsFollowed (rights k.access) q calls inside)
+      → (inside : List Call) × (refused : List Refused) × AreMade handles hears settles inside d.inside d'.inside × (refusals_of d'.door ≡ all_counted refused k.known.refusals)
+      × ((q : ℕ) → IsFollowed (rights k.access) q calls inside refused)
 
 -- ---- of what happens on a connection, whatever that is
 

@@ -7,6 +7,8 @@ use Rattle.broker_sockets.specs.declared.events.Output.TheVariants as outputs
 use Rattle.mqtt_packets.specs.declared.packet.Packet.{Packet}
 use Rattle.door_packets.specs.Answers.{connack, disconnect}
 use Rattle.door_guard.specs.Clients.{client_of}
+use Rattle.door_guard.specs.Counts.{Refusal, Refused, refused_by, refused_on}
+use Rattle.door_guard.specs.Counts.Refusal.{Message}
 use Rattle.door_packets.specs.Rights.{Rights}
 use Rattle.door_packets.specs.Sending.{IsSpelled, mended}
 use Rattle.door_streams.specs.Going.{may_go}
@@ -186,6 +188,36 @@ effect r s (Gets bytes) = gets r bytes s
 effect r s Closes = record { held = None; told = []; out = closed s }
 effect r s Leaves = leaves s
 
+-- ---- what is refused
+
+abbrev pub refused_next : Held → List Step → List Refusal
+refused_next x [] = []
+refused_next x (step ∷ more) = if is_leaving x.client then [] else refused_by step
+
+-- where the next thing is done
+abbrev pub refused_where : Option Held → List Refusal
+refused_where None = []
+refused_where (Some x) = refused_next x x.doing.todo
+
+abbrev pub unsent_by : Rights → Held → List ℕ → List Refusal
+unsent_by r x bytes = if may_go r x.client.login bytes then [] else Message ∷ []
+
+-- where the handler inside gives these bytes
+abbrev pub unsent : Rights → List ℕ → Option Held → List Refusal
+unsent r bytes None = []
+unsent r bytes (Some x) = if is_leaving x.client then [] else unsent_by r x (mended x.doing.awaited bytes)
+
+abbrev pub refused_at : Rights → Option Held → Happening → List Refusal
+refused_at r s Opens = []
+refused_at r s Goes = []
+refused_at r s (Spaces n) = []
+refused_at r s (Comes marked bytes) = []
+refused_at r s Does = refused_where s
+refused_at r s Rests = []
+refused_at r s (Gets bytes) = unsent r bytes s
+refused_at r s Closes = []
+refused_at r s Leaves = []
+
 -- ---- one after another
 
 abbrev pub held_after : Rights → Option Held → List Happening → Option Held
@@ -199,6 +231,10 @@ told_in r s (h ∷ hs) = (effect r s h).told ++ told_in r (effect r s h).held hs
 abbrev pub out_in : Rights → Option Held → List Happening → List Outgoing
 out_in r s [] = []
 out_in r s (h ∷ hs) = (effect r s h).out ++ out_in r (effect r s h).held hs
+
+abbrev pub refused_in : Rights → Option Held → List Happening → List Refusal
+refused_in r s [] = []
+refused_in r s (h ∷ hs) = refused_at r s h ++ refused_in r (effect r s h).held hs
 
 -- what comes from outside
 abbrev pub met_one : Happening → List Notice
@@ -265,12 +301,13 @@ staged busy k q = held_by (busy q) (client_of k q)
 
 -- ---- what happens on a connection while the handler inside is called
 
--- from one stage to another: what came from outside, what the handler inside was told and what it gave, and what goes out beyond this
-pub record IsPath (r : Rights) (q : ℕ) (s s' : Option Held) (met told : List Notice) (given out out' : List Output) : Type 0 where
+-- from one stage to another: what came from outside, what the handler inside was told and what it gave, what is refused, and what goes out beyond this
+pub record IsPath (r : Rights) (q : ℕ) (s s' : Option Held) (met told : List Notice) (given : List Output) (refused : List Refused) (out out' : List Output) : Type 0 where
   pub happenings : List Happening
   pub held : s' ≡ held_after r s happenings
   pub orderly : IsOrderly r s happenings
   pub comes : met_in happenings ≡ met
   pub tells : AreSaid (told_in r s happenings) told
   pub gives : given_in happenings ≡ on q given
+  pub refuses : refused_on q refused ≡ refused_in r s happenings
   pub goes : on q out' ≡ on q out ++ out_in r s happenings

@@ -26,7 +26,7 @@ fn pass<H: Handler, A: Access>(
     kind: EventKind,
     outputs: &mut Vec<Output>,
 ) -> Result<(), GuardFault<H::Fault>>
-    ensures ok { OnOk result (IsTold H.handles (A.rights access.now) place.0 place.1 None kind inside.old inside.new known.old.clients known.new.clients outputs.old.items outputs.new.items) }
+    ensures ok { OnOk result (IsTold H.handles (A.rights access.now) place.0 place.1 None kind inside.old inside.new known.old.clients known.new.clients (known.old.refusals, outputs.old.items) (known.new.refusals, outputs.new.items)) }
     ensures fault { IfErr result (IsStopped H.handles H.refuses inside.old inside.new) }
 {
     tell(alloc, access, inside, known, place, &None, kind, outputs)
@@ -43,7 +43,7 @@ fn space<H: Handler, A: Access>(
     bytes: u64,
     outputs: &mut Vec<Output>,
 ) -> Result<(), GuardFault<H::Fault>>
-    ensures ok { OnOk result (IsMet H.handles (A.rights access.now) place.0 (λ q. noted q (Room place.1 bytes)) inside.old inside.new known.old.clients known.new.clients outputs.old.items outputs.new.items) }
+    ensures ok { OnOk result (IsMet H.handles (A.rights access.now) place.0 (λ q. noted q (Room place.1 bytes)) inside.old inside.new known.old.clients known.new.clients (known.old.refusals, outputs.old.items) (known.new.refusals, outputs.new.items)) }
     ensures fault { IfErr result (IsStopped H.handles H.refuses inside.old inside.new) }
 {
     let connection = place.1;
@@ -77,7 +77,7 @@ fn go<H: Handler, A: Access>(
     place: (u64, u64),
     outputs: &mut Vec<Output>,
 ) -> Result<(), GuardFault<H::Fault>>
-    ensures ok { OnOk result (IsMet H.handles (A.rights access.now) place.0 (λ q. noted q (Closed place.1)) inside.old inside.new known.old.clients known.new.clients outputs.old.items outputs.new.items) }
+    ensures ok { OnOk result (IsMet H.handles (A.rights access.now) place.0 (λ q. noted q (Closed place.1)) inside.old inside.new known.old.clients known.new.clients (known.old.refusals, outputs.old.items) (known.new.refusals, outputs.new.items)) }
     ensures fault { IfErr result (IsStopped H.handles H.refuses inside.old inside.new) }
 {
     let connection = place.1;
@@ -101,7 +101,7 @@ fn take_bytes<H: Handler, A: Access>(
     bytes: Vec<u8>,
     outputs: &mut Vec<Output>,
 ) -> Result<(), GuardFault<H::Fault>>
-    ensures ok { OnOk result (IsMet H.handles (A.rights access.now) place.0 (λ q. noted q (Piece place.1 bytes)) inside.old inside.new known.old.clients known.new.clients outputs.old.items outputs.new.items) }
+    ensures ok { OnOk result (IsMet H.handles (A.rights access.now) place.0 (λ q. noted q (Piece place.1 bytes)) inside.old inside.new known.old.clients known.new.clients (known.old.refusals, outputs.old.items) (known.new.refusals, outputs.new.items)) }
     ensures fault { IfErr result (IsStopped H.handles H.refuses inside.old inside.new) }
 {
     match known.clients.take(place.1) {
@@ -127,7 +127,7 @@ fn take<H: Handler, A: Access>(
     kind: EventKind,
     outputs: &mut Vec<Output>,
 ) -> Result<(), GuardFault<H::Fault>>
-    ensures ok { OnOk result (IsMet H.handles (A.rights access.now) at (λ q. noted q kind) inside.old inside.new known.old.clients known.new.clients outputs.old.items outputs.new.items) }
+    ensures ok { OnOk result (IsMet H.handles (A.rights access.now) at (λ q. noted q kind) inside.old inside.new known.old.clients known.new.clients (known.old.refusals, outputs.old.items) (known.new.refusals, outputs.new.items)) }
     ensures fault { IfErr result (IsStopped H.handles H.refuses inside.old inside.new) }
 {
     match kind {
@@ -166,7 +166,7 @@ pub(crate) fn answer<H: Handler, A: Access>(
     known: &mut Known,
     event: Event,
 ) -> Result<Vec<Output>, GuardFault<H::Fault>>
-    ensures ok { IfOk result (λ outputs. IsMet H.handles (A.rights access.now) event.at (λ q. noted q event.kind) inside.old inside.new known.old.clients known.new.clients [] outputs.items) }
+    ensures ok { IfOk result (λ outputs. IsMet H.handles (A.rights access.now) event.at (λ q. noted q event.kind) inside.old inside.new known.old.clients known.new.clients (known.old.refusals, []) (known.new.refusals, outputs.items)) }
     ensures fault { IfErr result (IsStopped H.handles H.refuses inside.old inside.new) }
 {
     let mut outputs = Vec::new(alloc);
@@ -185,7 +185,7 @@ pub(crate) fn hear_on<H: BridgeHandler, A: Access>(
     known: &mut Known,
     event: PeerEvent,
 ) -> Result<Given, GuardFault<H::Fault>>
-    ensures ok { IfOk result (λ given. IsPassedOn H.hears (A.rights access.now) event inside.old inside.new known.old.clients known.new.clients given) }
+    ensures ok { IfOk result (λ given. IsPassedOn H.hears (A.rights access.now) event inside.old inside.new known.old known.new given) }
     ensures fault { IfErr result (λ fault. IsDeclinedOn H.declines event fault inside.old inside.new) }
 {
     match inside.hear(event) {

@@ -1,7 +1,8 @@
 //! How many were refused.
 
 ghost use Rattle.std.specs.Prelude.{◌≡◌};
-ghost use Rattle.door_guard.specs.Counts.{counted, more, none_refused};
+ghost use Rattle.door_guard.specs.Counts.{counted, more, none_refused, refused_by, with_one};
+ghost use Rattle.door_guard.specs.Counts.Refusal.{Message};
 
 use door_packets::Step;
 
@@ -14,6 +15,8 @@ pub struct Refusals {
     pub publishes: u64,
     /// Filters of SUBSCRIBEs.
     pub filters: u64,
+    /// Messages that weren't sent, since their receiver may not read them; each of them ended its connection.
+    pub messages: u64,
 }
 
 /// So many more.
@@ -32,12 +35,13 @@ impl Refusals {
             connects: 0,
             publishes: 0,
             filters: 0,
+            messages: 0,
         }
     }
 
     /// This is done.
     pub(crate) fn note(&mut self, step: &Step)
-        ensures { self.new ≡ counted step.now self.old }
+        ensures { self.new ≡ counted (refused_by step.now) self.old }
     {
         match step {
             Step::TurnsAway(_) => self.connects = more(self.connects, 1),
@@ -48,5 +52,12 @@ impl Refusals {
             }
             Step::Asks(_, None) | Step::Opens | Step::Rooms(_) | Step::Tells(_) => {}
         }
+    }
+
+    /// A message isn't sent.
+    pub(crate) fn note_message(&mut self)
+        ensures { self.new ≡ with_one Message self.old }
+    {
+        self.messages = more(self.messages, 1);
     }
 }

@@ -2,6 +2,7 @@
 
 ghost use Rattle.std.specs.Prelude.{◌≡◌, ℕ, None};
 ghost use Rattle.door_guard.specs.Clients.{client_of};
+ghost use Rattle.door_guard.specs.Counts.{none_refused};
 
 use crate::known::Known;
 use std::alloc::Global;
@@ -18,6 +19,7 @@ impl<A> Door<A> {
     pub(crate) fn new(alloc: Global, access: A) -> Door<A>
         ensures access { result.access ≡ access }
         ensures none { (q : ℕ) → client_of result.known.clients q ≡ None }
+        ensures counts { result.known.refusals ≡ none_refused }
     {
         Door {
             access,

@@ -45,7 +45,8 @@ pub(crate) fn end(
     connection: u64,
     outputs: &mut Vec<Output>,
 ) -> Result<(), NoMemory>
-    ensures { OnOk result (IsEnded connection known.old.clients known.new.clients outputs.old.items outputs.new.items) }
+    ensures ended { OnOk result (IsEnded connection known.old.clients known.new.clients outputs.old.items outputs.new.items) }
+    ensures counts { OnOk result (known.new.refusals ≡ known.old.refusals) }
 {
     send(outputs, connection, disconnect(alloc)?)?;
     close(outputs, connection)?;
@@ -81,7 +82,7 @@ fn give_bytes<A: Access>(
     bytes: Vec<u8>,
     outputs: &mut Vec<Output>,
 ) -> Result<(), NoMemory>
-    ensures { OnOk result (AreGiven (A.rights access.now) place awaited.now (Send connection bytes ∷ []) known.old.clients known.new.clients outputs.old.items outputs.new.items) }
+    ensures { OnOk result (AreGiven (A.rights access.now) place awaited.now (Send connection bytes ∷ []) known.old.clients known.new.clients (known.old.refusals, outputs.old.items) (known.new.refusals, outputs.new.items)) }
 {
     let Some(client) = known.clients.get(connection) else {
         return Ok(());
@@ -93,6 +94,7 @@ fn give_bytes<A: Access>(
     if may_go(alloc, access, &client.login, &put)? {
         return send(outputs, connection, put);
     }
+    known.refusals.note_message();
     end(alloc, known, connection, outputs)
 }
 
@@ -106,7 +108,7 @@ fn give_close<A: Access>(
     connection: u64,
     outputs: &mut Vec<Output>,
 ) -> Result<(), NoMemory>
-    ensures { OnOk result (AreGiven (A.rights access.now) place awaited.now (Close connection ∷ []) known.old.clients known.new.clients outputs.old.items outputs.new.items) }
+    ensures { OnOk result (AreGiven (A.rights access.now) place awaited.now (Close connection ∷ []) known.old.clients known.new.clients (known.old.refusals, outputs.old.items) (known.new.refusals, outputs.new.items)) }
 {
     let live = known.clients.is_live(connection);
     known.clients.take(connection);
@@ -127,7 +129,7 @@ fn give_one<A: Access>(
     output: Output,
     outputs: &mut Vec<Output>,
 ) -> Result<(), NoMemory>
-    ensures { OnOk result (AreGiven (A.rights access.now) place awaited.now (output ∷ []) known.old.clients known.new.clients outputs.old.items outputs.new.items) }
+    ensures { OnOk result (AreGiven (A.rights access.now) place awaited.now (output ∷ []) known.old.clients known.new.clients (known.old.refusals, outputs.old.items) (known.new.refusals, outputs.new.items)) }
 {
     match output {
         Output::Send { connection, bytes } => {
@@ -152,7 +154,7 @@ pub(crate) fn give<A: Access>(
     given: Vec<Output>,
     outputs: &mut Vec<Output>,
 ) -> Result<(), NoMemory>
-    ensures { OnOk result (AreGiven (A.rights access.now) place awaited.now given.items known.old.clients known.new.clients outputs.old.items outputs.new.items) }
+    ensures { OnOk result (AreGiven (A.rights access.now) place awaited.now given.items known.old.clients known.new.clients (known.old.refusals, outputs.old.items) (known.new.refusals, outputs.new.items)) }
 {
     for output in given {
         give_one(alloc, access, known, place, awaited, output, outputs)?;

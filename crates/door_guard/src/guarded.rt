@@ -3,6 +3,7 @@
 ghost use Rattle.std.specs.Prelude.{◌≡◌, ℕ, None, Some, IfSome, option_map};
 ghost use Rattle.door_guard.specs.Answering.{refusals_of};
 ghost use Rattle.door_guard.specs.Clients.{client_of};
+ghost use Rattle.door_guard.specs.Counts.{none_refused};
 
 use crate::answer::{answer, hear_on};
 use crate::counts::Refusals;
@@ -25,6 +26,7 @@ pub struct Guarded<H, A> {
 fn door_if<A>(alloc: Global, access: Option<A>) -> Option<Door<A>>
     ensures access { option_map (λ k. k.access) result ≡ access }
     ensures begins { IfSome result (λ k. (q : ℕ) → client_of k.known.clients q ≡ None) }
+    ensures counts { refusals_of result ≡ none_refused }
 {
     match access {
         None => None,
@@ -38,6 +40,7 @@ impl<H, A> Guarded<H, A> {
         ensures inside { result.inside ≡ inside }
         ensures access { option_map (λ k. k.access) result.door ≡ access }
         ensures begins { IfSome result.door (λ k. (q : ℕ) → client_of k.known.clients q ≡ None) }
+        ensures counts { refusals_of result.door ≡ none_refused }
     {
         Guarded {
             alloc,
@@ -53,7 +56,7 @@ impl<H, A> Guarded<H, A> {
         &self.inside
     }
 
-    /// How many were refused.
+    /// How many were refused since the program began; none without users.
     pub fn refusals(&self) -> Refusals
         ensures { result ≡ refusals_of self.now.door }
     {

@@ -2,6 +2,7 @@
 
 ghost use Rattle.std.specs.Prelude.{◌≡◌, ◌++◌, ◌∷◌, [], ℕ, None, OnOk};
 ghost use Rattle.door_guard.specs.Clients.{IsBut, client_of, login_at, restaged};
+ghost use Rattle.door_guard.specs.Counts.{none_refused};
 ghost use Rattle.door_packets.specs.Marks.{IsForgotten, IsMarked, is_marked};
 ghost use Rattle.door_packets.specs.declared.client.Stage.TheVariants as stages;
 
@@ -12,7 +13,6 @@ use mqtt_fields::NoMemory;
 use std::alloc::Global;
 
 /// What is known of all clients.
-#[derive(Drop)]
 pub(crate) struct Known {
     pub(crate) clients: Clients,
     /// Those whose next CONNECT begins a new session.
@@ -20,6 +20,17 @@ pub(crate) struct Known {
     /// Connections whose end went out, and of which the handler inside isn't told that yet.
     pub(crate) leaving: Vec<u64>,
     pub(crate) refusals: Refusals,
+}
+
+impl Drop for Known {
+    fn drop(self) {
+        let Known {
+            clients: _clients,
+            marks: _marks,
+            leaving: _leaving,
+            refusals: _refusals,
+        } = self;
+    }
 }
 
 /// The session of this client has to end.
@@ -44,7 +55,8 @@ pub(crate) fn forget(marks: &mut Marks, client: &Client)
 impl Known {
     /// No connection is open.
     pub(crate) fn new(alloc: Global) -> Known
-        ensures { (q : ℕ) → client_of result.clients q ≡ None }
+        ensures begins { (q : ℕ) → client_of result.clients q ≡ None }
+        ensures counts { result.refusals ≡ none_refused }
     {
         Known {
             clients: Clients::new(alloc),
@@ -59,6 +71,7 @@ impl Known {
         ensures clients { OnOk result (IsBut connection (restaged stages.Leaving (client_of self.old.clients connection)) self.old.clients self.new.clients) }
         ensures marks { OnOk result (IsMarked (login_at (client_of self.old.clients connection)) self.old.marks self.new.marks) }
         ensures listed { OnOk result (self.new.leaving.items ≡ self.old.leaving.items ++ connection ∷ []) }
+        ensures counts { OnOk result (self.new.refusals ≡ self.old.refusals) }
     {
         let login = self.clients.login(alloc, connection)?;
         mark(&mut self.marks, login)?;

@@ -1,11 +1,9 @@
 //! What the handler inside is told, and what goes out.
 
-ghost use Rattle.std.specs.Prelude.{◌≡◌, ◌∷◌, [], true, IfErr, OnOk};
-ghost use Rattle.door_guard.specs.Clients.{client_of, is_live};
+ghost use Rattle.std.specs.Prelude.{◌≡◌, ◌∷◌, [], IfErr, OnOk};
 ghost use Rattle.door_guard.specs.Doing.{IsTurned};
 ghost use Rattle.door_guard.specs.Faults.{IsStopped};
-ghost use Rattle.door_guard.specs.Telling.{AreDone, IsMet, IsTold, none};
-ghost use Rattle.door_packets.specs.declared.step.Step.TheVariants.{Asks};
+ghost use Rattle.door_guard.specs.Telling.{AreDone, IsAsked, IsMet, IsTold, none};
 
 use crate::fault::GuardFault;
 use crate::giving::{close, end, give, send};
@@ -29,7 +27,7 @@ pub(crate) fn tell<H: Handler, A: Access>(
     kind: EventKind,
     outputs: &mut Vec<Output>,
 ) -> Result<(), GuardFault<H::Fault>>
-    ensures ok { OnOk result (IsTold H.handles (A.rights access.now) place.0 place.1 awaited.now kind inside.old inside.new known.old.clients known.new.clients outputs.old.items outputs.new.items) }
+    ensures ok { OnOk result (IsTold H.handles (A.rights access.now) place.0 place.1 awaited.now kind inside.old inside.new known.old.clients known.new.clients (known.old.refusals, outputs.old.items) (known.new.refusals, outputs.new.items)) }
     ensures fault { IfErr result (IsStopped H.handles H.refuses inside.old inside.new) }
 {
     let at = place.0;
@@ -43,7 +41,7 @@ pub(crate) fn tell<H: Handler, A: Access>(
 }
 
 /// Tells the handler inside of a packet.
-#[tactic(auto, using(crate::proofs::Steps::done_asks))]
+#[tactic(auto, using(crate::proofs::Steps::asked))]
 fn ask<H: Handler, A: Access>(
     alloc: Global,
     access: &A,
@@ -54,8 +52,7 @@ fn ask<H: Handler, A: Access>(
     awaited: &Option<Awaited>,
     outputs: &mut Vec<Output>,
 ) -> Result<(), GuardFault<H::Fault>>
-    requires { is_live (client_of known.old.clients place.1) ≡ true }
-    ensures ok { OnOk result (AreDone H.handles (A.rights access.now) place.0 place.1 (Asks packet.now awaited.now ∷ []) inside.old inside.new known.old.clients known.new.clients outputs.old.items outputs.new.items) }
+    ensures ok { OnOk result (IsAsked H.handles (A.rights access.now) place.0 place.1 packet.now awaited.now inside.old inside.new known.old.clients known.new.clients (known.old.refusals, outputs.old.items) (known.new.refusals, outputs.new.items)) }
     ensures fault { IfErr result (IsStopped H.handles H.refuses inside.old inside.new) }
 {
     let bytes = spelled(alloc, packet)?;
@@ -73,7 +70,8 @@ fn turn_away(
     code: u8,
     outputs: &mut Vec<Output>,
 ) -> Result<(), NoMemory>
-    ensures { OnOk result (IsTurned connection code known.old.clients known.new.clients outputs.old.items outputs.new.items) }
+    ensures turned { OnOk result (IsTurned connection code known.old.clients known.new.clients outputs.old.items outputs.new.items) }
+    ensures counts { OnOk result (known.new.refusals ≡ known.old.refusals) }
 {
     send(outputs, connection, connack(alloc, code)?)?;
     close(outputs, connection)?;
@@ -82,7 +80,7 @@ fn turn_away(
 }
 
 /// Does one thing, if the connection is open.
-#[tactic(auto, using(crate::proofs::Steps::done_silent, crate::proofs::Steps::done_opens, crate::proofs::Steps::done_rooms, crate::proofs::Steps::done_tells, crate::proofs::Steps::done_as, crate::proofs::Steps::done_acks, crate::proofs::Steps::done_subacks, crate::proofs::Steps::done_drops, crate::proofs::Steps::done_turns, crate::proofs::Steps::done_ends))]
+#[tactic(auto, using(crate::proofs::Steps::done_silent, crate::proofs::Steps::done_opens, crate::proofs::Steps::done_asks, crate::proofs::Steps::done_rooms, crate::proofs::Steps::done_tells, crate::proofs::Steps::done_acks, crate::proofs::Steps::done_subacks, crate::proofs::Steps::done_drops, crate::proofs::Steps::done_turns, crate::proofs::Steps::done_ends))]
 fn do_step<H: Handler, A: Access>(
     alloc: Global,
     access: &A,
@@ -92,7 +90,7 @@ fn do_step<H: Handler, A: Access>(
     step: Step,
     outputs: &mut Vec<Output>,
 ) -> Result<(), GuardFault<H::Fault>>
-    ensures ok { OnOk result (AreDone H.handles (A.rights access.now) place.0 place.1 (step ∷ []) inside.old inside.new known.old.clients known.new.clients outputs.old.items outputs.new.items) }
+    ensures ok { OnOk result (AreDone H.handles (A.rights access.now) place.0 place.1 (step ∷ []) inside.old inside.new known.old.clients known.new.clients (known.old.refusals, outputs.old.items) (known.new.refusals, outputs.new.items)) }
     ensures fault { IfErr result (IsStopped H.handles H.refuses inside.old inside.new) }
 {
     if !known.clients.is_live(place.1) {
@@ -136,7 +134,7 @@ pub(crate) fn do_steps<H: Handler, A: Access>(
     steps: Vec<Step>,
     outputs: &mut Vec<Output>,
 ) -> Result<(), GuardFault<H::Fault>>
-    ensures ok { OnOk result (AreDone H.handles (A.rights access.now) place.0 place.1 steps.items inside.old inside.new known.old.clients known.new.clients outputs.old.items outputs.new.items) }
+    ensures ok { OnOk result (AreDone H.handles (A.rights access.now) place.0 place.1 steps.items inside.old inside.new known.old.clients known.new.clients (known.old.refusals, outputs.old.items) (known.new.refusals, outputs.new.items)) }
     ensures fault { IfErr result (IsStopped H.handles H.refuses inside.old inside.new) }
 {
     for step in steps {
@@ -159,7 +157,7 @@ fn leave_one<H: Handler, A: Access>(
     connection: u64,
     outputs: &mut Vec<Output>,
 ) -> Result<(), GuardFault<H::Fault>>
-    ensures ok { OnOk result (IsMet H.handles (A.rights access.now) at none inside.old inside.new known.old.clients known.new.clients outputs.old.items outputs.new.items) }
+    ensures ok { OnOk result (IsMet H.handles (A.rights access.now) at none inside.old inside.new known.old.clients known.new.clients (known.old.refusals, outputs.old.items) (known.new.refusals, outputs.new.items)) }
     ensures fault { IfErr result (IsStopped H.handles H.refuses inside.old inside.new) }
 {
     if !known.clients.is_leaving(connection) {
@@ -189,7 +187,7 @@ pub(crate) fn leave_all<H: Handler, A: Access>(
     at: u64,
     outputs: &mut Vec<Output>,
 ) -> Result<(), GuardFault<H::Fault>>
-    ensures ok { OnOk result (IsMet H.handles (A.rights access.now) at none inside.old inside.new known.old.clients known.new.clients outputs.old.items outputs.new.items) }
+    ensures ok { OnOk result (IsMet H.handles (A.rights access.now) at none inside.old inside.new known.old.clients known.new.clients (known.old.refusals, outputs.old.items) (known.new.refusals, outputs.new.items)) }
     ensures fault { IfErr result (IsStopped H.handles H.refuses inside.old inside.new) }
 {
     let leaving = mem::replace(&mut known.leaving, Vec::new(alloc));

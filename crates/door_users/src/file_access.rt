@@ -15,12 +15,21 @@ use mqtt_fields::{Blob, NoMemory, Text};
 use std::alloc::Global;
 
 /// The users of a file, and what the rules of another file give each. Without rules each user may do all.
-#[derive(Drop)]
 pub struct FileAccess {
     users: Users,
     rules: Option<RuleIndex>,
     /// A client without a user name is let in too.
     anonymous: bool,
+}
+
+impl Drop for FileAccess {
+    fn drop(self) {
+        let FileAccess {
+            users: _users,
+            rules: _rules,
+            anonymous: _anonymous,
+        } = self;
+    }
 }
 
 /// The rules by the users that they are for.

@@ -4,6 +4,7 @@ use Rattle.std.specs.List.{slice_get}
 use Rattle.std.specs.Option.{option_map}
 use Rattle.std.specs.Ordering.{eq_by_cmp}
 use Rattle.std.proofs.Common.{◌≡◌, ◌⊎◌, inl, inr, ℕ, Bool, true, false, cond, List, [], ◌∷◌, ◌++◌, Option, Some, None, refl, sym, ap, ◌∙◌, subst, length}
+use Rattle.home_table.specs.Table.{Table}
 use Rattle.law_maps.proofs.Texts.{same_text, get_inserted, get_apart, get_left}
 use Rattle.mqtt_message.specs.declared.delivery.Delivery.{Delivery}
 use Rattle.mqtt_sessions.specs.Saved.{durable_of}
@@ -88,8 +89,8 @@ seat_act client h (Bridge a) has = inr (seat_by client h (bridged h a) (bridge_s
 seat_act client h a has = inr has
 
 -- what was kept of it is opened again
-seat_woken : (client : List ℕ) (h h' : HeldView) → IsWoken h.homes (lasting h) h' → HasSeat client h → HasSeat client h'
-seat_woken client h h' w has =
+seat_woken : (client : List ℕ) (homes : Table) (h h' : HeldView) → IsWoken homes (lasting h) h' → HasSeat client h → HasSeat client h'
+seat_woken client homes h h' w has =
     (opened_seat (durable_of has.0.session), ap (λ (v : HeldView). map.get v.sessions client) w.2 ∙ w.1 client ∙ ap (λ o. option_map opened_seat (option_map (λ (s : Seat). durable_of s.session) o)) has.1)
 
 over_later : (client : List ℕ) (m : Move) (moves : List Move) → SessionIsOver client moves → SessionIsOver client (m ∷ moves)
@@ -106,8 +107,8 @@ seat_stays client p (Acted a ∷ moves) h h' r has =
       | inl over ↦ inl (record { before = []; after = moves; is = inl (ap (λ x. Acted x ∷ moves) over) })
       | inr still ↦ elim (seat_stays client p moves r.0 h' r.2 (subst (HasSeat client) (sym r.1.1) still)) [ inl o ↦ inl (over_later client (Acted a) moves o) | inr s ↦ inr s ]
     ]
-seat_stays client p (Reopened ∷ moves) h h' r has =
-    elim (seat_stays client p moves r.0 h' r.2 (seat_woken client h r.0 r.1 has)) [ inl o ↦ inl (over_later client Reopened moves o) | inr s ↦ inr s ]
+seat_stays client p (Reopened homes ∷ moves) h h' r has =
+    elim (seat_stays client p moves r.0 h' r.2 (seat_woken client homes h r.0 r.1 has)) [ inl o ↦ inl (over_later client (Reopened homes) moves o) | inr s ↦ inr s ]
 
 moves_split : (p : Place) (xs ys : List Move) (a b : HeldView) → Moves p a (xs ++ ys) b → (m : HeldView) × Moves p a xs m × Moves p m ys b
 moves_split p [] ys a b r = (a, refl, r)

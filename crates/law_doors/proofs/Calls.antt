@@ -42,3 +42,11 @@ module _ {K : Type 0} (passes : K → Call → List Call → K → Type 0) (k : 
       let same = one call all.1 all.0 all.3 in
       let From : K → Type 0 = λ m. ArePassed passes m calls all.2 k' in
       all.5 ∙ ap (λ (first : List Call). first ++ all.2) same.0 ∙ ap (λ (rest : List Call). call ∷ rest) (all_same calls all.2 k' (subst From same.1 all.4))
+
+  -- and what it keeps is the same
+  pub state_same : (calls inside : List Call) (k' : K) → ArePassed passes k calls inside k' → k' ≡ k
+  state_same [] inside k' all = all.1
+  state_same (call ∷ calls) inside k' all =
+      let same = one call all.1 all.0 all.3 in
+      let From : K → Type 0 = λ m. ArePassed passes m calls all.2 k' in
+      state_same calls all.2 k' (subst From same.1 all.4)

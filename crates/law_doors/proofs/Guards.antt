@@ -1,11 +1,11 @@
 -- What the handler inside is told behind one that lets in users alone.
-use Rattle.std.proofs.Common.{◌≡◌, List, [], ◌∷◌, ◌++◌, Option, Some, None, refl, subst}
+use Rattle.std.proofs.Common.{◌≡◌, List, [], ◌∷◌, ◌++◌, Option, Some, None, refl, ap, subst}
 use Rattle.broker_sockets.specs.declared.bridge.Given.{Given}
 use Rattle.broker_sockets.specs.declared.bridge.PeerEvent.{PeerEvent}
 use Rattle.broker_sockets.specs.declared.events.Event.{Event}
 use Rattle.broker_sockets.specs.declared.events.Output.{Output}
 use Rattle.broker_turns.specs.Handling.Told.{Of_client, Of_peer}
-use Rattle.door_guard.specs.Answering.{IsAnswered, IsAnsweredIf, IsHeard, IsHeardIf, IsSettled}
+use Rattle.door_guard.specs.Answering.{IsAnswered, IsAnsweredIf, IsHeard, IsHeardIf, IsSettled, refusals_of}
 use Rattle.door_guard.specs.Telling.{AreTold, Told}
 use Rattle.door_guard.specs.Views.{inside_of}
 use Rattle.door_guard.specs.declared.door.Door.{Door}
@@ -13,7 +13,7 @@ use Rattle.door_guard.specs.declared.guarded.Guarded.{Guarded}
 use Rattle.door_packets.specs.Rights.{Rights}
 use Rattle.law_doors.specs.Calls.{Call, IsCalled, Settles, Tells, notes, notes_peer}
 use Rattle.law_doors.specs.Guards.{Guards_pass, GuardsOff, GuardsTell, door_of}
-use Rattle.law_doors.proofs.Calls.{Passed, all_passed, all_same}
+use Rattle.law_doors.proofs.Calls.{Passed, all_passed, all_same, state_same}
 use Rattle.law_doors.proofs.Noting.{Noted, noted_as, noted_none, noted_one, noted_then}
 
 module _ {A H : Type 0} (rights : A → Rights) (handles : H → Event → List Output → H → Type 0) (hears : H → PeerEvent → Given → H → Type 0) (settles : H → H → Type 0) where
@@ -35,7 +35,7 @@ module _ {A H : Type 0} (rights : A → Rights) (handles : H → Event → List 
   answered_if (Some k) (Some k') e h h' outputs xs a =
       let p = a.0.part in
       noted_as handles hears settles h h' xs (λ ys. AreTold notes p.calls xs ys) (λ ys. IsAnsweredIf notes rights (Some k) (Some k') e xs ys outputs)
-      (λ ys is. (record { part = record { calls = p.calls; told = is; moments = p.moments; paths = p.paths } }, a.1)) (told_noted p.calls h h' xs p.told)
+      (λ ys is. (record { part = record { calls = p.calls; refused = p.refused; told = is; moments = p.moments; counts = p.counts; paths = p.paths } }, a.1)) (told_noted p.calls h h' xs p.told)
 
   heard_one : (e : PeerEvent) (given : Given) (h h' : H) (xs : List Call) → hears h e given h' → Notes h h' xs (λ ys. notes_peer xs e given ys)
   heard_one e given h h' xs is = record { calls = Tells (Of_peer e given) ∷ []; called = (h', is, refl); end = xs ++ Tells (Of_peer e given) ∷ []; ends = refl; is = refl }
@@ -80,4 +80,7 @@ module _ {A : Type 0} (rights : A → Rights) where
   free_one Settles first k is = is
 
   pub guards_off : GuardsOff rights
-  guards_off k calls inside all = all_same (Guards_pass rights) None free_one calls inside k all
+  guards_off k calls inside all = (
+    all_same (Guards_pass rights) None free_one calls inside k all,
+    ap (λ (x : Option (Door A)). refusals_of x) (state_same (Guards_pass rights) None free_one calls inside k all),
+  )

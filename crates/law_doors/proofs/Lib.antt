@@ -7,3 +7,4 @@ pub mod Guards
 pub mod Levels
 pub mod Limits
 pub mod Noting
+pub mod Refusing

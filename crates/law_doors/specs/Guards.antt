@@ -5,8 +5,9 @@ use Rattle.broker_sockets.specs.declared.bridge.PeerEvent.{PeerEvent}
 use Rattle.broker_sockets.specs.declared.events.Event.{Event}
 use Rattle.broker_sockets.specs.declared.events.Output.{Output}
 use Rattle.broker_turns.specs.Handling.Told.{Of_client, Of_peer}
-use Rattle.door_guard.specs.Answering.{IsAnsweredIf, IsHeardIf}
+use Rattle.door_guard.specs.Answering.{IsAnsweredIf, IsHeardIf, refusals_of}
 use Rattle.door_guard.specs.Calls as guards
+use Rattle.door_guard.specs.Counts.{Refused, all_counted, none_refused}
 use Rattle.door_guard.specs.Laws.{IsFollowed}
 use Rattle.door_guard.specs.Clients.{client_of}
 use Rattle.door_guard.specs.Views.{inside_of}
@@ -15,6 +16,7 @@ use Rattle.door_guard.specs.declared.door.Door.{Door}
 use Rattle.door_guard.specs.declared.fault.GuardFault.{GuardFault}
 use Rattle.door_guard.specs.declared.fault.GuardFault.TheVariants.{Inside}
 use Rattle.door_guard.specs.declared.guarded.Guarded.{Guarded}
+use Rattle.door_guard.specs.declared.known.Known.{Known}
 use Rattle.door_packets.specs.Rights.{Rights}
 use Rattle.law_doors.specs.Calls.{AreCalled, ArePassed, Call, Settles, Tells, notes, notes_peer}
 
@@ -26,7 +28,10 @@ door_of d = d.door
 abbrev pub access_of : {A : Type 0} → Door A → A
 access_of k = k.access
 
--- what is known of connections
+-- what is known of connections, and how many were refused
+abbrev pub known_in : {A : Type 0} → Door A → Known
+known_in k = k.known
+
 abbrev pub clients_in : {A : Type 0} → Door A → Clients
 clients_in k = k.known.clients
 
@@ -47,15 +52,15 @@ module _ {A : Type 0} (rights : A → Rights) where
   Guards_pass k Settles first k' = (first ≡ Settles ∷ []) × (k' ≡ k)
 
   -- Where there are users, from where no connection is open: of each connection the handler inside is told just what its user may send, and what goes out is
-  -- what its user may receive of that which the handler inside gave, and what answers the rest.
+  -- what its user may receive of that which the handler inside gave, and what answers the rest. What is counted is just what was refused on these connections.
   abbrev pub GuardsFollow : Type 0
   GuardsFollow =
       (k : Door A) (k' : Option (Door A)) (calls inside : List Call) → NoneOpen k → ArePassed Guards_pass (Some k) calls inside k'
-      → (q : ℕ) → IsFollowed (rights (access_of k)) q (map as_guard_call calls) (map as_guard_call inside)
+      → (refused : List Refused) × (refusals_of k' ≡ all_counted refused (refusals_of (Some k))) × ((q : ℕ) → IsFollowed (rights (access_of k)) q (map as_guard_call calls) (map as_guard_call inside) refused)
 
-  -- without users it is told just what the other is
+  -- without users it is told just what the other is, and nothing is refused
   abbrev pub GuardsOff : Type 0
-  GuardsOff = (k : Option (Door A)) (calls inside : List Call) → ArePassed Guards_pass None calls inside k → inside ≡ calls
+  GuardsOff = (k : Option (Door A)) (calls inside : List Call) → ArePassed Guards_pass None calls inside k → (inside ≡ calls) × (refusals_of k ≡ none_refused)
 
   module _ {H : Type 0} (handles : H → Event → List Output → H → Type 0) (hears : H → PeerEvent → Given → H → Type 0) (settles : H → H → Type 0)
       (handles' : Guarded H A → Event → List Output → Guarded H A → Type 0) (hears' : Guarded H A → PeerEvent → Given → Guarded H A → Type 0)

@@ -3,3 +3,4 @@ pub mod Calls
 pub mod Guards
 pub mod Levels
 pub mod Limits
+pub mod Refusing

@@ -3,6 +3,8 @@ ghost use Rattle.law_doors.specs.Bounds.{BoundsOff, BoundsTell};
 ghost use Rattle.law_doors.specs.Guards.{GuardsFollow, GuardsOff, GuardsStop, GuardsTell};
 ghost use Rattle.law_doors.specs.Levels.{LevelsFollow, LevelsOff, LevelsTell};
 ghost use Rattle.law_doors.specs.Limits.{LimitsOff, LimitsTell};
+ghost use Rattle.law_doors.specs.Refusing.{RefusalsAreOfPackets};
+ghost use Rattle.door_packets.specs.Rights.{Rights};
 
 use broker_sockets::{BridgeHandler, Handler};
 use door_bounds::{Bounded, Gauge};
@@ -29,7 +31,8 @@ pub fn bounds_tell<H: BridgeHandler, G: Gauge>()
 
 /// Whatever calls are made of a handler with users, or without, they are these calls of the handler inside: each event, where of a client nothing comes before it
 /// is let in, and then those packets alone that its user may send. Of each connection it is told that, in order, and what goes out is what it gave, as far as
-/// the user may read that, and what answers the rest. Where it stops with a fault of the handler inside, that stopped so.
+/// the user may read that, and what answers the rest. Its counts are those of what was refused on these connections, and none without users. Where it stops with
+/// a fault of the handler inside, that stopped so.
 pub fn guards_tell<H: BridgeHandler, A: Access>()
     ensures tells { GuardsTell A.rights H.handles H.hears H.settles
         ⟦<Guarded<H, A> as Handler>⟧.handles ⟦<Guarded<H, A> as BridgeHandler>⟧.hears ⟦<Guarded<H, A> as Handler>⟧.settles }
@@ -38,6 +41,12 @@ pub fn guards_tell<H: BridgeHandler, A: Access>()
     ensures stop { GuardsStop H.handles H.hears H.settles H.refuses H.declines H.stops
         ⟦<Guarded<H, A> as Handler>⟧.handles ⟦<Guarded<H, A> as BridgeHandler>⟧.hears ⟦<Guarded<H, A> as Handler>⟧.settles
         ⟦<Guarded<H, A> as Handler>⟧.refuses ⟦<Guarded<H, A> as BridgeHandler>⟧.declines ⟦<Guarded<H, A> as Handler>⟧.stops }
+{}
+
+/// What is counted for a packet of a client that was let in is one PUBLISH that it may not send, and each filter of a SUBSCRIBE to which it may not
+/// subscribe.
+pub fn refusals_are_of_packets()
+    ensures { (r : Rights) → RefusalsAreOfPackets r }
 {}
 
 /// Whatever calls are made of a handler that translates, or doesn't, they are these calls of the handler inside: each event, where bytes of a client of a

@@ -13,6 +13,7 @@ use Rattle.node_work.specs.Acts.{Act, MomentTaken, Began, Moved, Store, Connecti
 use Rattle.node_work.specs.Held.Connections.{ConnectionAct, Opened, Fed, Roomed, Accepted, Closed}
 use Rattle.node_work.specs.Held.Bridge.{BridgeAct, Put, Took, Got, Believed, Gave, Left_out, bridged}
 use Rattle.node_work.specs.Held.Sessions.{SessionAct, SessionStep, Begun, Called, Over, MayCall, called}
+use Rattle.home_table.specs.Table.{Table}
 use Rattle.node_work.specs.Lasting.{lasting, IsWoken}
 use Rattle.node_rows.specs.Sessions.{opened_seat}
 use Rattle.node_work.specs.View.{Place, HeldView, fresh}
@@ -89,8 +90,8 @@ lived_act p h (Passed m copies lost routes) lives may lived = lived
 lived_act p h Dropped lives may lived = lived
 
 -- each session that is there after a loss was there before
-lived_lost : (h h' : HeldView) (lives : List ℕ → List Step) → IsWoken h.homes (lasting h) h' → IsLived lives h → IsLived (λ client. lives client ++ lost_step ∷ []) h'
-lived_lost h h' lives woken lived client seat is =
+lived_lost : (homes : Table) (h h' : HeldView) (lives : List ℕ → List Step) → IsWoken homes (lasting h) h' → IsLived lives h → IsLived (λ client. lives client ++ lost_step ∷ []) h'
+lived_lost homes h h' lives woken lived client seat is =
     again (map.get h.sessions client) refl (sym (woken.1 client) ∙ subst (λ (v : HeldView). map.get v.sessions client ≡ Some seat) woken.2 is)
   where
     again : (o : Option Seat) → map.get h.sessions client ≡ o → option_map opened_seat (option_map (λ (s : Seat). durable_of s.session) o) ≡ Some seat → Run (new_session client) (lives client ++ lost_step ∷ []) seat.session
@@ -102,7 +103,7 @@ lived_lost h h' lives woken lived client seat is =
 
 lived_move : (p : Place) (h : HeldView) (m : Move) (h' : HeldView) (lives : List ℕ → List Step) → MovesTo p h m h' → IsLived lives h → IsLived (λ client. after_move client m (lives client)) h'
 lived_move p h (Acted a) h' lives does lived = subst (IsLived (λ client. after_act client a (lives client))) (sym does.1) (lived_act p h a lives does.0 lived)
-lived_move p h Reopened h' lives woken lived = lived_lost h h' lives woken lived
+lived_move p h (Reopened homes) h' lives woken lived = lived_lost homes h h' lives woken lived
 
 pub moves_are_lives : MovesAreLives
 moves_are_lives = λ p h h' moves lives all lived. go p moves h h' lives all lived

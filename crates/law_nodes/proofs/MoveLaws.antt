@@ -33,4 +33,4 @@ moves_lead_to_one = λ p h a b moves r q. go p moves h a b r q
     go : (p : Place) (moves : List Move) (h a b : HeldView) → Moves p h moves a → Moves p h moves b → a ≡ b
     go p [] h a b r q = r ∙ sym q
     go p (Acted x ∷ moves) h a b r q = go p moves q.0 a b (subst (λ v. Moves p v moves a) (r.1.1 ∙ sym q.1.1) r.2) q.2
-    go p (Reopened ∷ moves) h a b r q = go p moves q.0 a b (subst (λ v. Moves p v moves a) (woken_one h.homes (lasting h) r.0 q.0 r.1 q.1) r.2) q.2
+    go p (Reopened homes ∷ moves) h a b r q = go p moves q.0 a b (subst (λ v. Moves p v moves a) (woken_one homes (lasting h) r.0 q.0 r.1 q.1) r.2) q.2

@@ -37,7 +37,7 @@ lost_step = record { event = loses; reaction = nothing }
 
 abbrev pub after_move : List ℕ → Move → List Step → List Step
 after_move client (Acted a) given = after_act client a given
-after_move client Reopened given = given ++ lost_step ∷ []
+after_move client (Reopened homes) given = given ++ lost_step ∷ []
 
 -- the calls and losses of the client's session since it last began, in order
 abbrev pub life : List ℕ → List Move → List Step → List Step

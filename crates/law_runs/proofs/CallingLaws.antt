@@ -56,7 +56,7 @@ adds_act client Dropped given = inr (same given)
 
 adds_move : (client : List ℕ) (m : Move) (given : List Step) → Ends client m ⊎ Adds given (after_move client m given)
 adds_move client (Acted a) given = adds_act client a given
-adds_move client Reopened given = inr (lost_step ∷ [], refl)
+adds_move client (Reopened homes) given = inr (lost_step ∷ [], refl)
 
 over_first : (client : List ℕ) (m : Move) (moves : List Move) → Ends client m → SessionIsOver client (m ∷ moves)
 over_first client m moves (inl e) = record { before = []; after = moves; is = inl (ap (λ n. n ∷ moves) e) }
@@ -99,7 +99,7 @@ moves_did (Lost i e acts) before after a is = ap did is
 moves_did (Cut i) before after a is = none_there before after a is
 moves_did (Faulted i fault) before after a is = none_there before after a is
 moves_did (Was_down i) before after a is = none_there before after a is
-moves_did (Restarted i) before after a is = none_there before after a is
+moves_did (Restarted i homes) before after a is = none_there before after a is
 
 moves_both : (i : ℕ) (ms ns : List Played) → moves_at i (ms ++ ns) ≡ moves_at i ms ++ moves_at i ns
 moves_both i [] ns = refl

@@ -67,8 +67,8 @@ led_from : (p p' : Place) (first first' : Table) (ms : List Move) (h : HeldView)
 led_from p p' first first' ms h place table moves = subst (λ t. Moves p' (fresh t) ms h) table (led_by p p' first ms h (sym place) moves)
 
 -- lanes last
-lanes_last : (p : Place) (a b : HeldView) → Moves p a (Reopened ∷ []) b → b.bridge.lanes ≡ a.bridge.lanes
-lanes_last p a b r = ap (λ (v : HeldView). v.bridge.lanes) r.2 ∙ ap (λ (v : HeldView). v.bridge.lanes) r.1.2
+lanes_last : (p : Place) (homes : Table) (a b : HeldView) → Moves p a (Reopened homes ∷ []) b → b.bridge.lanes ≡ a.bridge.lanes
+lanes_last p homes a b r = ap (λ (v : HeldView). v.bridge.lanes) r.2 ∙ ap (λ (v : HeldView). v.bridge.lanes) r.1.2
 
 -- one more moment, of this node or of another one
 own_more : (i : ℕ) (run : List Played) (m : Played) → site m.fate ≡ i → moves_at i (run ++ m ∷ []) ≡ moves_at i run ++ moves_of m.fate
@@ -270,8 +270,8 @@ module _ (start : World) (put took : Histories) (run : List Played) (w : World) 
   }
 
   -- a node is opened again: its lanes last
-  lanes_woke : (i : ℕ) → Woke w i w' → site m.fate ≡ i → moves_of m.fate ≡ Reopened ∷ [] → LanesExplain start put took (run ++ m ∷ []) w'
-  lanes_woke i c own moves = record {
+  lanes_woke : (i : ℕ) (homes : Table) → Woke w i homes w' → site m.fate ≡ i → moves_of m.fate ≡ Reopened homes ∷ [] → LanesExplain start put took (run ++ m ∷ []) w'
+  lanes_woke i homes c own moves = record {
     begins = x.begins;
     sites = λ k h l. elim (nat_cases i k) [
       | inl q ↦ subst (λ n. AreKept h.bridge.lanes (put n) (took n) (λ j. took j n)) q (own_kept h (subst (λ n. HeldLast start (run ++ m ∷ []) w' n h) (sym q) l))
@@ -292,10 +292,10 @@ module _ (start : World) (put took : Histories) (run : List Played) (w : World) 
         let first = fresh l.first in
         let there : l.node ≡ c.later = some_is (sym l.at ∙ at) in
         let same : l.node.node.place ≡ place = ap (λ (s : Site). s.node.place) there ∙ ap (λ (n : NodeView). n.place) c.reopens.node.is in
-        let mine : moves_at i (run ++ m ∷ []) ≡ moves_at i run ++ Reopened ∷ [] = own_more i run m own ∙ ap (λ ms. moves_at i run ++ ms) moves in
-        let all : Moves place first (moves_at i run ++ Reopened ∷ []) h = subst (λ ms. Moves place first ms h) mine (led_by l.node.node.place place l.first (moves_at i (run ++ m ∷ [])) h (sym same) l.moves) in
-        let parts = moves_split place (moves_at i run) (Reopened ∷ []) first h all in
-        subst (λ ls. AreKept ls (put i) (took i) (λ j. took j i)) (sym (lanes_last place parts.0 h parts.2)) (x.sites i parts.0 (record { node = c.was; at = c.at; first = l.first; was = l.was; moves = parts.1 }))
+        let mine : moves_at i (run ++ m ∷ []) ≡ moves_at i run ++ Reopened homes ∷ [] = own_more i run m own ∙ ap (λ ms. moves_at i run ++ ms) moves in
+        let all : Moves place first (moves_at i run ++ Reopened homes ∷ []) h = subst (λ ms. Moves place first ms h) mine (led_by l.node.node.place place l.first (moves_at i (run ++ m ∷ [])) h (sym same) l.moves) in
+        let parts = moves_split place (moves_at i run) (Reopened homes ∷ []) first h all in
+        subst (λ ls. AreKept ls (put i) (took i) (λ j. took j i)) (sym (lanes_last place homes parts.0 h parts.2)) (x.sites i parts.0 (record { node = c.was; at = c.at; first = l.first; was = l.was; moves = parts.1 }))
 
 -- ---- a step
 module _ (run : List Played) (w w' : World) (step : Step) (r : Reached run w) (x : LanesExplain r.start (λ i j. put i j run) (λ i j. took i j run) run w) where
@@ -318,9 +318,9 @@ module _ (run : List Played) (w w' : World) (step : Step) (r : Reached run w) (x
   after (Was_down i) honest h =
       let m : Played = record { step = step; fate = Was_down i } in
       same_histories r.start (λ i j. put i j run) (λ i j. took i j run) run w x w' m i (lanes_rest r.start (λ i j. put i j run) (λ i j. took i j run) run w x w' m refl (came w step (Was_down i) w' h))
-  after (Restarted i) honest h =
-      let m : Played = record { step = step; fate = Restarted i } in
-      same_histories r.start (λ i j. put i j run) (λ i j. took i j run) run w x w' m i (lanes_woke r.start (λ i j. put i j run) (λ i j. took i j run) run w x w' m i (came w step (Restarted i) w' h) refl refl)
+  after (Restarted i homes) honest h =
+      let m : Played = record { step = step; fate = Restarted i homes } in
+      same_histories r.start (λ i j. put i j run) (λ i j. took i j run) run w x w' m i (lanes_woke r.start (λ i j. put i j run) (λ i j. took i j run) run w x w' m i homes (came w step (Restarted i homes) w' h) refl refl)
 
 lanes_start : (w : World) → IsStart w → LanesExplain w (λ i j. []) (λ i j. []) [] w
 lanes_start w s = record {

@@ -1,5 +1,6 @@
 -- The call of a session that opened an exchange.
 use Rattle.std.proofs.Common.{◌≡◌, ◌⊎◌, inl, inr, ℕ, ◌==◌, ◌&&◌, Bool, true, false, cond, is_some, nat_eq, List, [], ◌∷◌, ◌++◌, refl, sym, ap, ◌∙◌, subst, append_assoc, eqb-true}
+use Rattle.home_table.specs.Table.{Table}
 use Rattle.mqtt_packets.specs.declared.packet.Packet.TheVariants as packets
 use Rattle.mqtt_packets.specs.declared.publish.Publish.{Publish}
 use Rattle.mqtt_sessions.specs.Reaction.{Reaction}
@@ -156,7 +157,7 @@ module _ (client : List ℕ) (past since : List Step) (s : Step) (kept : lost_st
 
   by_move : (m : Move) (given : List Step) → after_move client m given ≡ past ++ s ∷ since → InGiven past s given ⊎ ((t : SessionStep) × (m ≡ Acted (Session (Called t))) × (t.client ≡ client) × (step_in t ≡ s))
   by_move (Acted a) given e = elim (by_act a given e) [ inl g ↦ inl g | inr x ↦ inr (x.0, ap Acted x.1, x.2, x.3) ]
-  by_move Reopened given e = elim (grown given past since s lost_step e) [ inl g ↦ inl g | inr same ↦ absurd (kept same) ]
+  by_move (Reopened homes) given e = elim (grown given past since s lost_step e) [ inl g ↦ inl g | inr same ↦ absurd (kept same) ]
 
 moved : (client : List ℕ) (past : List Step) (s : Step) → (lost_step ≡ s → ⊥) → (moves : List Move) (given since : List Step) → life client moves given ≡ past ++ s ∷ since → InGiven past s given ⊎ IsMove client moves s
 moved client past s kept [] given since e = inl (since, e)
@@ -192,9 +193,9 @@ did_acts [] ms ns a e = none_there ms ns (Acted a) e
 did_acts (x ∷ acts) [] ns a e = ([], acts, ap (λ y. y ∷ acts) (same_act x a (head_is e)))
 did_acts (x ∷ acts) (m ∷ ms) ns a e = let r = did_acts acts ms ns a (tail_is e) in (x ∷ r.0, r.1, ap (λ zs. x ∷ zs) r.2)
 
-lost_is_none : {X : Type 0} (ms ns : List Move) (a : Act) → Reopened ∷ [] ≡ ms ++ Acted a ∷ ns → X
-lost_is_none [] ns a e = absurd (let z : Reopened ≡ Acted a = head_is e in cc)
-lost_is_none (m ∷ ms) ns a e = none_there ms ns (Acted a) (tail_is e)
+lost_is_none : {X : Type 0} (homes : Table) (ms ns : List Move) (a : Act) → Reopened homes ∷ [] ≡ ms ++ Acted a ∷ ns → X
+lost_is_none homes [] ns a e = absurd (let z : Reopened homes ≡ Acted a = head_is e in cc)
+lost_is_none homes (m ∷ ms) ns a e = none_there ms ns (Acted a) (tail_is e)
 
 acts_in : (fate : Fate) (ms ns : List Move) (a : Act) → moves_of fate ≡ ms ++ Acted a ∷ ns → IsDid a (acts_of fate)
 acts_in (Released i e acts outputs) ms ns a h = did_acts acts ms ns a h
@@ -202,7 +203,7 @@ acts_in (Lost i e acts) ms ns a h = did_acts acts ms ns a h
 acts_in (Cut i) ms ns a h = none_there ms ns (Acted a) h
 acts_in (Faulted i fault) ms ns a h = none_there ms ns (Acted a) h
 acts_in (Was_down i) ms ns a h = none_there ms ns (Acted a) h
-acts_in (Restarted i) ms ns a h = lost_is_none ms ns a h
+acts_in (Restarted i homes) ms ns a h = lost_is_none homes ms ns a h
 
 own_in : (i : ℕ) (fate : Fate) (b : Bool) → nat_eq (site fate) i ≡ b → (ms ns : List Move) (a : Act) → cond b (moves_of fate) [] ≡ ms ++ Acted a ∷ ns → (site fate ≡ i) × IsDid a (acts_of fate)
 own_in i fate true is ms ns a h = (eqb-true (site fate) i is, acts_in fate ms ns a h)

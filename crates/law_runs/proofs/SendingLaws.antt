@@ -25,7 +25,7 @@ by_fate w j s (Lost k e acts) w' connection bytes b i = absurd i
 by_fate w j s (Cut k) w' connection bytes b i = absurd i
 by_fate w j s (Faulted k fault) w' connection bytes b i = absurd i
 by_fate w j s (Was_down k) w' connection bytes b i = absurd i
-by_fate w j s (Restarted k) w' connection bytes b i = absurd i
+by_fate w j s (Restarted k homes) w' connection bytes b i = absurd i
 
 called : (m : Played) (connection : ℕ) (bytes : List ℕ) → SentAmong (acts_of m.fate) connection bytes ⊎ IsOwnPacket bytes → CallSends m connection bytes ⊎ IsOwnPacket bytes
 called m connection bytes (inl s) = inl (record { before = s.before; call = record { step = s.step; after = s.after; acts = s.acts_are }; sent = s.sent })

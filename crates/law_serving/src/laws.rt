@@ -44,7 +44,7 @@ pub fn served_is_reached<R: RowStore>()
     ensures { ServedIsReached R.is_open R.content }
 {}
 
-/// A node that is opened from the rows that a crash, a kill or a fault left, with the table of homes that it took last, is one of a run that is restarted,
+/// A node that is opened from the rows that a crash, a kill or a fault left, with a table of homes that is for as many nodes, is one of a run that is restarted with it,
 /// and serves from there.
 pub fn opening_is_a_restart<R: RowStore>()
     ensures { OpeningIsARestart R.is_open R.content }

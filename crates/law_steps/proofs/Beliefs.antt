@@ -74,7 +74,7 @@ act_beliefs h Dropped b = b
 pub moves_beliefs : (p : Place) (moves : List Move) (h h' : HeldView) → Moves p h moves h' → HasBeliefs h → HasBeliefs h'
 moves_beliefs p [] h h' r b = subst HasBeliefs (sym r) b
 moves_beliefs p (Acted a ∷ moves) h h' r b = moves_beliefs p moves r.0 h' r.2 (subst HasBeliefs (sym r.1.1) (act_beliefs h a b))
-moves_beliefs p (Reopened ∷ moves) h h' r b = moves_beliefs p moves r.0 h' r.2 (subst HasBeliefs (sym r.1.2) (opened_beliefs h.bridge.lanes))
+moves_beliefs p (Reopened homes ∷ moves) h h' r b = moves_beliefs p moves r.0 h' r.2 (subst HasBeliefs (sym r.1.2) (opened_beliefs h.bridge.lanes))
 
 -- ---- silent acts leave what it believes, and how many frames it counts as bad
 pub record BelievesAlike (h h' : HeldView) : Type 0 where

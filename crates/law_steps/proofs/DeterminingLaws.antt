@@ -47,7 +47,7 @@ released_by w i s (Lost k d acts') w' j e acts outputs is b = absurd cc
 released_by w i s (Cut k) w' j e acts outputs is b = absurd cc
 released_by w i s (Faulted k fault) w' j e acts outputs is b = absurd cc
 released_by w i s (Was_down k) w' j e acts outputs is b = absurd cc
-released_by w i s (Restarted k) w' j e acts outputs is b = absurd cc
+released_by w i s (Restarted k homes) w' j e acts outputs is b = absurd cc
 
 module _ (w : World) (m : Played) (w' : World) (p : Place) (h : HeldView) (e : Event) (x : StepsFrom w m w' p h e) where
   here : Committed w (site m.fate) e (acts_of m.fate) w'

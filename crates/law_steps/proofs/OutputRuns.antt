@@ -59,13 +59,13 @@ committed_on w w' i e acts c on j s h at up = elim (nat_cases i j) [
 rests_on : (w w' : World) → Rests w w' → AllOn w → AllOn w'
 rests_on w w' r on j s h at up = let k = r.sites j s at in on j k.0 h k.1 (k.2.up h up)
 
-woke_on : (w w' : World) (i : ℕ) → Woke w i w' → AllOn w → AllOn w'
-woke_on w w' i c on j s h at up = elim (nat_cases i j) [
+woke_on : (w w' : World) (i : ℕ) (homes : Table) → Woke w i homes w' → AllOn w → AllOn w'
+woke_on w w' i homes c on j s h at up = elim (nat_cases i j) [
   | inl q ↦ (
       let here : slice_get w'.sites i ≡ Some s = subst (λ n. slice_get w'.sites n ≡ Some s) (sym q) at in
       let there : c.later ≡ s = some_is (sym (get-set_same w.sites i c.later c.was c.at) ∙ sym (ap (λ ss. slice_get ss i) c.sites) ∙ here) in
       let is : c.reopens.node.held ≡ h = some_is (sym (ap (λ (n : NodeView). n.up) c.reopens.node.is) ∙ ap (λ (v : Site). v.node.up) there ∙ up) in
-      subst SessionsAreOnTheirs is (woken_on c.was.node.homes c.reopens.node.lasting c.reopens.node.held c.reopens.node.woken))
+      subst SessionsAreOnTheirs is (woken_on homes c.reopens.node.lasting c.reopens.node.held c.reopens.node.woken))
   | inr ne ↦ on j s h (sym (get-set_other w.sites i j c.later ne) ∙ sym (ap (λ ss. slice_get ss j) c.sites) ∙ at) up
 ]
 
@@ -75,7 +75,7 @@ came_on w w' (Lost i e acts) c on = committed_on w w' i e acts c on
 came_on w w' (Cut i) c on = rests_on w w' c on
 came_on w w' (Faulted i fault) c on = rests_on w w' c on
 came_on w w' (Was_down i) c on = rests_on w w' c on
-came_on w w' (Restarted i) c on = woke_on w w' i c on
+came_on w w' (Restarted i homes) c on = woke_on w w' i homes c on
 
 start_on : (w : World) → IsStart w → AllOn w
 start_on w s i x h at up =

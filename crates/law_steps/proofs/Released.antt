@@ -33,7 +33,7 @@ giver w i s (Lost j e acts) w' b k sent at = none-some at
 giver w i s (Cut j) w' b k sent at = none-some at
 giver w i s (Faulted j fault) w' b k sent at = none-some at
 giver w i s (Was_down j) w' b k sent at = none-some at
-giver w i s (Restarted j) w' b k sent at = none-some at
+giver w i s (Restarted j homes) w' b k sent at = none-some at
 
 -- the step was at the seat
 same_seat : (w : World) (i : ℕ) (s : Site) (fate : Fate) (w' : World) → Becomes w i s fate w' → site fate ≡ i
@@ -42,7 +42,7 @@ same_seat w i s (Lost j e acts) w' b = b.0
 same_seat w i s (Cut j) w' b = b.0
 same_seat w i s (Faulted j fault) w' b = b.0
 same_seat w i s (Was_down j) w' b = b.0
-same_seat w i s (Restarted j) w' b = b.0
+same_seat w i s (Restarted j homes) w' b = b.0
 
 given_later : (run : List Played) (m : Played) (sent : Frame) → WasGiven run sent → WasGiven (run ++ m ∷ []) sent
 given_later run m sent g = record {

@@ -189,13 +189,13 @@ committed_good w w' i e acts c good j s h at up = elim (nat_cases i j) [
 rests_good : (w w' : World) → Rests w w' → AllGood w → AllGood w'
 rests_good w w' r good j s h at up = let k = r.sites j s at in good j k.0 h k.1 (k.2.up h up)
 
-woke_good : (w w' : World) (i : ℕ) → Woke w i w' → AllGood w → AllGood w'
-woke_good w w' i c good j s h at up = elim (nat_cases i j) [
+woke_good : (w w' : World) (i : ℕ) (homes : Table) → Woke w i homes w' → AllGood w → AllGood w'
+woke_good w w' i homes c good j s h at up = elim (nat_cases i j) [
   | inl q ↦ (
       let here : slice_get w'.sites i ≡ Some s = subst (λ n. slice_get w'.sites n ≡ Some s) (sym q) at in
       let there : c.later ≡ s = some_is (sym (get-set_same w.sites i c.later c.was c.at) ∙ sym (ap (λ ss. slice_get ss i) c.sites) ∙ here) in
       let is : c.reopens.node.held ≡ h = some_is (sym (ap (λ (n : NodeView). n.up) c.reopens.node.is) ∙ ap (λ (v : Site). v.node.up) there ∙ up) in
-      subst IsGood is (woken_good c.was.node.homes c.reopens.node.lasting c.reopens.node.held c.reopens.node.woken))
+      subst IsGood is (woken_good homes c.reopens.node.lasting c.reopens.node.held c.reopens.node.woken))
   | inr ne ↦ good j s h (sym (get-set_other w.sites i j c.later ne) ∙ sym (ap (λ ss. slice_get ss j) c.sites) ∙ at) up
 ]
 
@@ -205,7 +205,7 @@ came_good w w' (Lost i e acts) c good = committed_good w w' i e acts c good
 came_good w w' (Cut i) c good = rests_good w w' c good
 came_good w w' (Faulted i fault) c good = rests_good w w' c good
 came_good w w' (Was_down i) c good = rests_good w w' c good
-came_good w w' (Restarted i) c good = woke_good w w' i c good
+came_good w w' (Restarted i homes) c good = woke_good w w' i homes c good
 
 start_good : (w : World) → IsStart w → AllGood w
 start_good w s i x h at up =

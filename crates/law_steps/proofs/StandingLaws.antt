@@ -134,7 +134,7 @@ commits_moved (Lost i e acts) homes is = (e, refl)
 commits_moved (Cut i) homes is = absurd (let z : [] ≡ homes ∷ [] = is in cc)
 commits_moved (Faulted i fault) homes is = absurd (let z : [] ≡ homes ∷ [] = is in cc)
 commits_moved (Was_down i) homes is = absurd (let z : [] ≡ homes ∷ [] = is in cc)
-commits_moved (Restarted i) homes is = absurd (let z : [] ≡ homes ∷ [] = is in cc)
+commits_moved (Restarted i table) homes is = absurd (let z : [] ≡ homes ∷ [] = is in cc)
 
 pub record TakesTable (e : Event) (p : Place) (h : HeldView) (homes : Table) (acts : List Act) (last : HeldView) : Type 0 where
   pub kind : e.kind ≡ kinds.Table homes

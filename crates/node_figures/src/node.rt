@@ -8,7 +8,7 @@ use crate::peers::peers_of;
 use broker_node::Node;
 use mqtt_fields::NoMemory;
 use node_work::Counts;
-use status_figures::{Figures, LeftOut, Usage};
+use status_figures::{Figures, LeftOut, NotAllowed, Usage};
 use status_tally::Tally;
 use std::alloc::Global;
 
@@ -37,8 +37,8 @@ fn copy_of(alloc: Global, text: Option<&str>) -> Result<Option<String>, NoMemory
 }
 
 /// The figures of a node of this name that runs since a moment, at another moment, both in milliseconds, with what a door before it has
-/// counted, and why what is found in the file of its table of homes isn't taken, where it isn't. Nothing else is said of them once the node has
-/// stopped. They don't tell what the program takes of its machine.
+/// counted, why what is found in the file of its table of homes isn't taken, where it isn't, and what its users were not allowed. Nothing else is said
+/// of them once the node has stopped. They don't tell what the program takes of its machine.
 pub fn figures_of(
     alloc: Global,
     name: &str,
@@ -46,9 +46,11 @@ pub fn figures_of(
     node: &Node,
     tally: &Tally,
     refusal: Option<&str>,
+    not_allowed: NotAllowed,
     at: u64,
 ) -> Result<Figures, NoMemory>
     ensures refusal { IfOk result (λ figures. option_map string_bytes figures.refusal ≡ option_map (λ r. r.now) refusal.entry) }
+    ensures not_allowed { IfOk result (λ figures. figures.not_allowed ≡ not_allowed) }
     ensures figures { IfOk result (λ figures. (h : HeldView) → node.now.up ≡ Some h → AreFigures name.now since at node.now h tally.now figures) }
 {
     let name = String::from_str(alloc, name)?;
@@ -73,6 +75,7 @@ pub fn figures_of(
         refused,
         ended,
         left_out: left_out(&node.counts()),
+        not_allowed,
         total: tally.total(),
         recent: tally.recent(at),
         peers,

@@ -1,6 +1,7 @@
 pub mod Events
 pub mod Faults
 pub mod Losses
+pub mod Opening
 pub mod Outputs
 pub mod Peers
 pub mod Printing

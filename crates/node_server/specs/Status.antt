@@ -1,5 +1,6 @@
 -- What is told of a node behind its doors.
 use Rattle.std.specs.Prelude.{◌≡◌, ℕ, [], Some, string_bytes}
+use Rattle.door_guard.specs.declared.counts.Refusals.{Refusals}
 use Rattle.door_log.specs.Views.{inside_of as limited_in}
 use Rattle.node_keeper.specs.BatchViews.{node_in, waiting_in}
 use Rattle.node_figures.specs.Figures.{AreFigures}
@@ -9,6 +10,7 @@ use Rattle.node_server.specs.declared.served.ServedNode.{ServedNode}
 use Rattle.node_server.specs.declared.status.NodeTeller.{NodeTeller}
 use Rattle.node_work.specs.View.{HeldView}
 use Rattle.status_figures.specs.declared.figures.Figures.{Figures}
+use Rattle.status_figures.specs.declared.figures.NotAllowed.{NotAllowed}
 use Rattle.status_tally.specs.Views.{inside_of, tally_of}
 use Rattle.status_tally.specs.declared.tally.Tally.{Tally}
 
@@ -19,6 +21,10 @@ served_behind d = node_behind (limited_in (inside_of d))
 -- all that it has decided is in its rows
 abbrev pub HasWritten : {R F G E : Type 0} → TalliedNode R F G E → Type 0
 HasWritten d = waiting_in (keeper_of (served_behind d)) ≡ []
+
+-- what users were not allowed
+abbrev pub not_allowed_by : Refusals → NotAllowed
+not_allowed_by n = record { publishes = n.publishes; filters = n.filters; messages = n.messages }
 
 -- the door counts, and the figures are those of the node, if it runs, and of what was counted
 pub record IsTold {R F G E : Type 0} (teller : NodeTeller) (d : TalliedNode R F G E) (at : ℕ) (figures : Figures) : Type 0 where

@@ -4,15 +4,18 @@
 mod convert;
 mod fault;
 mod losses;
+mod opening;
 mod peers;
 mod run;
 mod served;
 mod stack;
 mod status;
+mod straining;
 mod tables;
 mod viewed;
 mod watchers;
 
+pub use opening::open_after;
 pub use run::{ListenAt, serve};
 pub use served::ServedNode;
 pub use stack::{

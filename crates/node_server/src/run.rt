@@ -6,14 +6,17 @@ ghost use Rattle.node_server.specs.Losses.{ToldLosses};
 ghost use Rattle.node_server.specs.Peers.{ArePeers};
 ghost use Rattle.node_server.specs.Printing.{ready_line, turns_line};
 
-use crate::fault::{of_node, of_turn};
+use crate::fault::of_turn;
 use crate::losses::losses_of;
+use crate::opening::open_after;
 use crate::peers::peers_of;
 use crate::served::ServedNode;
 use crate::stack::LoggedNode;
 use crate::status::{NodeTeller, StatusPlace, open_desk};
+use crate::straining::watch_of;
 use crate::viewed::Viewed;
 use crate::watchers::Watchers;
+use broker_holds::Strain;
 use broker_sockets::{Clock, Readiness, Sockets, bind};
 use broker_turns::{Hub, Setting};
 use cli_stops::RunFault;
@@ -32,6 +35,7 @@ use status_door::{Machine, OpenDesk};
 use status_tally::{Tallied, Tally};
 use std::alloc::Global;
 use std::io::Write;
+use std::rc::Rc;
 
 /// Where a node waits, where these aren't the addresses at which clients and other nodes find it.
 #[derive(Clone, Copy, Debug)]
@@ -172,16 +176,23 @@ fn run_node<
     error: Option<E>,
     losses: Option<E>,
     desk: Option<OpenDesk<Z, NodeTeller, U>>,
+    strain: Option<Rc<Strain>>,
     turns: u64,
 ) -> Result<(), RunFault>
     requires { length setting.peers.items ≤ 64 }
 {
-    let tally = tally_if(alloc, desk.is_some(), keeper.node().homes().nodes())?;
+    let nodes = keeper.node().homes().nodes();
+    let tally = tally_if(alloc, desk.is_some(), nodes)?;
+    let Ok(lanes) = watch_of(alloc, nodes, strain) else {
+        return Err(RunFault::NoMemory);
+    };
     let Ok(mut hub) = Hub::new(alloc, setting) else {
         return Err(RunFault::NoMemory);
     };
     let (asked, gauge) = bounds;
-    let tabled = Tabled::new(ServedNode::new(alloc, keeper), tables);
+    let mut served = ServedNode::new(alloc, keeper);
+    served.watch_lanes(lanes);
+    let tabled = Tabled::new(served, tables);
     let guarded = Guarded::new(alloc, access, tabled);
     let bounded = Bounded::new(alloc, asked, gauge, guarded);
     let limited = Limited::new(alloc, limits, bounded);
@@ -202,9 +213,9 @@ fn run_node<
 /// Opens a node from its rows, waits at its addresses or at those that are given for clients and for other nodes, prints that it is ready, starts it behind
 /// these users, if there are any, these limits on what clients send, with a gauge of memory, and these on clients, makes so many turns, and prints that they were made. Where a writer
 /// is given for it a log is written there, and what is left out while it runs to another one; where a place is given its status is told there. Where newer
-/// tables of homes may come the node takes them.
+/// tables of homes may come the node takes them. Whether too much waits for other nodes is told where somebody is to be told.
 ///
-/// The faults in their order: the node's where it can't be opened, `Socket` where one of its addresses, another node's
+/// The faults in their order: the node's where it can't be opened, also with an older table of homes than its rows tell (`OlderTable`), `Socket` where one of its addresses, another node's
 /// bridge or the status's address isn't an IP address with a port, or can't be waited at, `Output` where a line can't be printed, and the
 /// node's where a turn stops.
 pub fn serve<
@@ -232,6 +243,7 @@ pub fn serve<
     error: Option<E>,
     losses: Option<E>,
     status: Option<StatusPlace<'_, Z, U>>,
+    strain: Option<Rc<Strain>>,
     turns: u64,
     out: &mut W,
 ) -> Result<(), RunFault>
@@ -239,9 +251,9 @@ pub fn serve<
     ensures { OnOk result (Appends (W.contents out.old) (W.contents out.new) (ready_line place.0 place.1 ++ turns_line turns)) }
 {
     let (homes, id) = place;
-    let keeper = match Keeper::open(alloc, rows, homes, id) {
+    let keeper = match open_after(alloc, rows, homes, id) {
         Ok(keeper) => keeper,
-        Err((fault, _)) => return Err(of_node(fault)),
+        Err((fault, _)) => return Err(fault),
     };
     let homes = keeper.node().homes();
     let setting = listen(alloc, sockets, homes, id, &at)?;
@@ -249,7 +261,7 @@ pub fn serve<
     tell_ready(out, homes, id)?;
     run_node(
         alloc, sockets, clock, setting, keeper, tables, access, bounds, limits, mqtt3, error,
-        losses, desk, turns,
+        losses, desk, strain, turns,
     )?;
     tell_turns(out, turns)
 }

@@ -6,6 +6,7 @@ ghost use Rattle.node_server.specs.Outputs.{AreForClients, AreForPeers};
 ghost use Rattle.node_server.specs.Serving.{IsCrashed};
 
 use crate::convert::{event_of, for_all, for_clients, peer_event_of};
+use crate::straining::{LaneWatch, tell_strain};
 use broker_node::Node;
 use broker_sockets::{BridgeHandler, Event, Given, Handler, Output, PeerEvent};
 use node_keeper::{BatchKeeper, Keeper, KeeperFault};
@@ -18,6 +19,8 @@ use std::alloc::Global;
 pub struct ServedNode<R> {
     pub(crate) alloc: Global,
     pub(crate) keeper: BatchKeeper<R>,
+    /// Who is told whether too much waits for other nodes, if anybody.
+    lanes: Option<LaneWatch>,
 }
 
 impl<R: RowStore> ServedNode<R> {
@@ -33,7 +36,15 @@ impl<R: RowStore> ServedNode<R> {
         ServedNode {
             alloc,
             keeper: BatchKeeper::new(alloc, keeper),
+            lanes: None,
         }
+    }
+
+    /// From now on it is told here whether too much waits for other nodes, where somebody is to be told.
+    pub(crate) fn watch_lanes(&mut self, lanes: Option<LaneWatch>)
+        ensures { self.new.keeper ≡ self.old.keeper }
+    {
+        self.lanes = lanes;
     }
 
     /// The node.
@@ -105,7 +116,10 @@ impl<R: RowStore> Handler for ServedNode<R> {
     fn handle(&mut self, told: Event) -> Result<Vec<Output>, KeeperFault> {
         let event = event_of(told);
         match self.keeper.decide(&event) {
-            Ok(made) => hand_over(self.alloc, &mut self.keeper, made),
+            Ok(made) => {
+                tell_strain(&mut self.lanes, self.keeper.node(), event.at);
+                hand_over(self.alloc, &mut self.keeper, made)
+            }
             Err(fault) => Err(fault),
         }
     }
@@ -128,7 +142,10 @@ impl<R: RowStore> BridgeHandler for ServedNode<R> {
     fn hear(&mut self, told: PeerEvent) -> Result<Given, KeeperFault> {
         let event = peer_event_of(told);
         match self.keeper.decide(&event) {
-            Ok(made) => give_all(self.alloc, &mut self.keeper, made),
+            Ok(made) => {
+                tell_strain(&mut self.lanes, self.keeper.node(), event.at);
+                give_all(self.alloc, &mut self.keeper, made)
+            }
             Err(fault) => Err(fault),
         }
     }

@@ -1,15 +1,17 @@
 //! Where the status of a node is told, and what is told there.
 
 ghost use Rattle.std.specs.Prelude.{◌≡◌, IfOk, string_bytes};
+ghost use Rattle.node_server.specs.Status.{not_allowed_by};
 
 use crate::stack::TalliedNode;
 use broker_sockets::{Sockets, bind};
 use cli_stops::RunFault;
+use door_guard::Refusals;
 use door_tables::Tables;
 use node_figures::figures_of;
 use row_store::RowStore;
 use status_door::{Machine, OpenDesk, Teller};
-use status_figures::Figures;
+use status_figures::{Figures, NotAllowed};
 use status_sockets::Desk;
 use std::alloc::{AllocError, Global};
 use std::hash::RandomState;
@@ -54,6 +56,17 @@ fn refusal_of<F: Tables>(tables: Option<&F>) -> Option<&str> {
     }
 }
 
+/// What users were not allowed, as it is told.
+fn not_allowed_by(refusals: Refusals) -> NotAllowed
+    ensures { result ≡ not_allowed_by refusals }
+{
+    NotAllowed {
+        publishes: refusals.publishes,
+        filters: refusals.filters,
+        messages: refusals.messages,
+    }
+}
+
 impl<R: RowStore, F: Tables, G, E> Teller<TalliedNode<R, F, G, E>> for NodeTeller {
     ghost use Rattle.node_server.specs.Status.{IsTold};
 
@@ -72,6 +85,7 @@ impl<R: RowStore, F: Tables, G, E> Teller<TalliedNode<R, F, G, E>> for NodeTelle
         let tabled = handler.inside().inside().inside().inside().inside();
         let refusal = refusal_of(tabled.tables());
         let node = tabled.inside().node();
+        let refusals = handler.inside().inside().inside().inside().refusals();
         match figures_of(
             alloc,
             self.name.as_str(),
@@ -79,6 +93,7 @@ impl<R: RowStore, F: Tables, G, E> Teller<TalliedNode<R, F, G, E>> for NodeTelle
             node,
             tally,
             refusal,
+            not_allowed_by(refusals),
             at,
         ) {
             Ok(figures) => Ok(Some(figures)),

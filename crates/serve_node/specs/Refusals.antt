@@ -1,4 +1,4 @@
--- What is told where nobody can be accepted, and where nobody can tell how much memory is held.
+-- What is told where nobody can be accepted, where nobody can tell how much memory is held, and where clients are held back.
 use Rattle.std.specs.Prelude.{ℕ, List, ◌++◌, ◌||◌, ◌==◌, if◌then◌else◌, codes}
 use Rattle.cli_stops.specs.Answers.{answer_text}
 use Rattle.cli_stops.specs.declared.answer.Answer.{Answer}
@@ -15,3 +15,7 @@ refusal_line answer = codes "broker: accepting clients: " ++ refusal_text answer
 -- the limit on memory doesn't hold
 abbrev pub unread_line : List ℕ
 unread_line = codes "broker: reading /proc/self/statm: it can not be read, so --most-memory limits nothing\n"
+
+-- clients that publish wait
+abbrev pub held_line : List ℕ
+held_line = codes "broker: more than 4096 messages wait for another node: clients that publish are held back\n"

@@ -6,7 +6,10 @@ mod gauge;
 mod machine;
 mod refusal;
 mod run;
+mod service;
 mod source;
+mod status;
 mod telling;
 
-pub use run::{StatusAt, serve};
+pub use run::serve;
+pub use service::{Named, Service, StatusAt};

@@ -1,10 +1,10 @@
-//! What is told where nobody can be accepted.
+//! What is told where nobody can be accepted, and where clients are held back.
 
 ghost use Rattle.std.specs.Prelude.{OnOk};
 ghost use Rattle.std.specs.Io.KnownBytes.{Appends};
 ghost use Rattle.std.specs.IoError.{error_kind, raw_os_error};
 ghost use Rattle.cli_stops.specs.Answers.{answer_in};
-ghost use Rattle.serve_node.specs.Refusals.{refusal_line};
+ghost use Rattle.serve_node.specs.Refusals.{held_line, refusal_line};
 
 use cli_stops::{Answer, answer_of};
 use std::io::{self, Write};
@@ -19,4 +19,14 @@ pub(crate) fn tell_refusal<E: Write>(error: &mut E, failure: &io::Error) -> io::
         }
         answer => writeln!(error, "broker: accepting clients: {answer}"),
     }
+}
+
+/// Writes that clients are held back, as a line.
+pub(crate) fn tell_held<E: Write>(error: &mut E) -> io::Result<()>
+    ensures { OnOk result (Appends (E.contents error.old) (E.contents error.new) held_line) }
+{
+    writeln!(
+        error,
+        "broker: more than 4096 messages wait for another node: clients that publish are held back"
+    )
 }

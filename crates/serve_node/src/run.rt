@@ -2,80 +2,51 @@
 
 ghost use Rattle.std.specs.Prelude.{◌<◌, length};
 
-use crate::causes::{cause_of, unopened};
+use crate::causes::{Asked, cause_of, unopened};
 use crate::gauge::TellingGauge;
 use crate::machine::{RealMachine, memory_of};
+use crate::service::{Named, Service, StatusAt};
 use crate::source::ConfigurationFile;
-use crate::telling::TellingSockets;
-use broker_sockets::{PolledSockets, RealClocks, RealSockets, SteadyClock};
+use crate::status::StatusSockets;
+use crate::telling::{Refused, TellingSockets};
+use broker_holds::{HoldingSockets, Strain};
+use broker_sockets::{PolledSockets, RealClocks, SteadyClock};
 use cli_files::{TableFile, configuration_bytes, configuration_of, unread};
 use cli_stops::{Ending, RunFault, Stop};
 use door_bounds::{BoundLimits, ProcessMemory};
-use door_limits::Limits;
 use door_tables::Tables;
 use door_users::FileAccess;
 use home_table::HomeTable;
-use node_server::{ListenAt, StatusPlace};
+use node_server::StatusPlace;
 use row_database::{Wary, open_rows};
 use row_store::RowStore;
 use std::fs::File;
 use std::hash::RandomState;
 use std::io::Stderr;
+use std::rc::Rc;
 
 /// As many turns as no node makes: at a million a second they take 146,000 years.
 const ENDLESS: u64 = (1 << 62) - 1;
 
-/// Where a node's status is told, and by which hosts it may be asked beside an IP address, `localhost` and its name, with commas between them.
-#[derive(Clone, Copy, Debug)]
-pub struct StatusAt<'a> {
-    pub address: &'a str,
-    pub hosts: &'a str,
-}
-
-/// Runs the named node of a configuration, with its rows in the database at a path, waiting at its addresses or at those that are given, for these users or
-/// for anyone, within limits on what clients send and on these, with a log on standard error or without, with its status told at an address or nowhere, for so
-/// many turns. Where no number is given it runs until the program is stopped, and takes newer tables of homes from the configuration's file.
+/// Runs the named node of a configuration with its rows in a database, for these users or for anyone, as it is to be served. Where no number of turns is given it
+/// runs until the program is stopped, and takes newer tables of homes from the configuration's file.
 pub fn serve(
     rt: &HostRuntime,
-    configuration: &str,
-    node: &str,
-    database: &str,
-    at: ListenAt<'_>,
+    names: Named<'_>,
     access: Option<FileAccess>,
-    bounds: BoundLimits,
-    limits: Limits,
-    mqtt3: bool,
-    log: bool,
-    status: Option<StatusAt<'_>>,
-    turns: Option<u32>,
+    service: Service<'_>,
 ) -> Result<(), Ending> {
+    let configuration = names.configuration;
     let bytes = match configuration_bytes(rt, configuration) {
         Ok(bytes) => bytes,
         Err(answer) => return Err(unread(rt.alloc(), configuration, answer)),
     };
-    let place = configuration_of(rt.alloc(), configuration, &bytes, node)?;
-    let tables = tables_of(rt, configuration, (node, place.1), bytes, turns.is_none());
-    let turns = match turns {
-        Some(turns) => u64::from(turns),
-        None => ENDLESS,
-    };
-    match open_rows(rt, database, Wary) {
-        Ok(rows) => serve_place(
-            rt,
-            rows,
-            place,
-            tables,
-            (node, database),
-            at,
-            access,
-            bounds,
-            limits,
-            mqtt3,
-            log,
-            status,
-            turns,
-        ),
-        Err(fault) => Err(unopened(rt, database, fault)),
+    let place = configuration_of(rt.alloc(), configuration, &bytes, names.node)?;
+    let looks = service.turns.is_none();
+    let tables = tables_of(rt, configuration, (names.node, place.1), bytes, looks);
+    match open_rows(rt, names.database, Wary) {
+        Ok(rows) => serve_place(rt, rows, place, tables, names, access, service),
+        Err(fault) => Err(unopened(rt, names.database, fault)),
     }
 }
 
@@ -95,67 +66,66 @@ fn tables_of<'a>(
     Some(file)
 }
 
-/// Runs a node of this name with these rows, which are in the database at a path.
+/// Runs a node with these rows, which are in the database of its name.
 fn serve_place<R: RowStore + Drop, F: Tables + Drop>(
     rt: &HostRuntime,
     rows: R,
     place: (HomeTable, u16),
     tables: Option<F>,
-    names: (&str, &str),
-    at: ListenAt<'_>,
+    names: Named<'_>,
     access: Option<FileAccess>,
-    bounds: BoundLimits,
-    limits: Limits,
-    mqtt3: bool,
-    log: bool,
-    status: Option<StatusAt<'_>>,
-    turns: u64,
+    service: Service<'_>,
 ) -> Result<(), Ending>
     requires { place.1 < length place.0.nodes }
 {
     let (homes, id) = place;
-    let (_, database) = names;
     let Ok(told) = homes.copy() else {
         return Err(Ending::from(Stop::Run(RunFault::NoMemory)));
     };
+    let mut refused = None;
     match serve_rows(
         rt,
         rows,
         (told, id),
-        names,
-        at,
         tables,
+        names,
         access,
-        bounds,
-        limits,
-        mqtt3,
-        log,
-        status,
-        turns,
+        service,
+        &mut refused,
     ) {
         Ok(()) => Ok(()),
         Err(stop) => {
-            let address = status.map(|status| status.address);
-            let cause = cause_of(rt, &stop, &homes, id, &at, database, address);
+            let asked = Asked {
+                database: names.database,
+                at: service.at,
+                status: service.status.map(|status| status.address),
+                refused,
+            };
+            let cause = cause_of(rt, &stop, &homes, id, &asked);
             Err(Ending { stop, cause })
         }
     }
 }
 
 /// The place of a node's status, over sockets of the system.
-type RealPlace<'a> = StatusPlace<'a, RealSockets<'a, HostRuntime>, RealMachine<'a>>;
+type RealPlace<'a> = StatusPlace<'a, StatusSockets<'a>, RealMachine<'a>>;
 
-/// The place of the status of a node by its name, which has a database at a path and may hold so much memory, if it is told anywhere.
+/// The place of the status of a named node, which may hold so much memory, if it is told anywhere. Where the system refuses the address that is kept in `refused`.
 fn place_of<'a>(
     rt: &'a HostRuntime,
-    names: (&'a str, &'a str),
+    names: Named<'a>,
     most_memory: Option<u64>,
     status: Option<StatusAt<'a>>,
+    refused: &'a mut Option<Refused>,
 ) -> Result<Option<RealPlace<'a>>, Stop> {
     let Some(StatusAt { address, hosts }) = status else {
         return Ok(None);
     };
-    let (name, database) = names;
+    let Named {
+        node: name,
+        database,
+        ..
+    } = names;
     let Ok(keys) = RandomState::new(rt) else {
         return Err(Stop::Run(RunFault::Socket));
     };
@@ -163,7 +133,7 @@ fn place_of<'a>(
         return Err(Stop::Run(RunFault::NoMemory));
     };
     Ok(Some(StatusPlace {
-        sockets: RealSockets::new(rt),
+        sockets: StatusSockets::new(rt, refused),
         machine,
         keys,
         name,
@@ -180,51 +150,73 @@ fn gauge_of(rt: &HostRuntime, bounds: &BoundLimits) -> Option<ProcessMemory<File
     memory_of(rt)
 }
 
-/// Runs a node of this name with these rows, which are in the database at a path, and with its status at an address, if at any.
+/// Another hold on what the node tells its sockets of what waits for other nodes.
+fn shared(strain: &Rc<Strain>) -> Result<Rc<Strain>, Stop> {
+    match strain.clone() {
+        Ok(strain) => Ok(strain),
+        Err(_) => Err(Stop::Run(RunFault::NoMemory)),
+    }
+}
+
+/// How many turns are made.
+fn turns_of(service: &Service<'_>) -> u64 {
+    match service.turns {
+        Some(turns) => u64::from(turns),
+        None => ENDLESS,
+    }
+}
+
+/// Runs a named node with these rows. Where the system refuses an address at which it is to wait that is kept in `refused`.
 fn serve_rows<R: RowStore + Drop, F: Tables + Drop>(
     rt: &HostRuntime,
     rows: R,
     place: (HomeTable, u16),
-    names: (&str, &str),
-    at: ListenAt<'_>,
     tables: Option<F>,
+    names: Named<'_>,
     access: Option<FileAccess>,
-    bounds: BoundLimits,
-    limits: Limits,
-    mqtt3: bool,
-    log: bool,
-    status: Option<StatusAt<'_>>,
-    turns: u64,
+    service: Service<'_>,
+    refused: &mut Option<Refused>,
 ) -> Result<(), Stop>
     requires { place.1 < length place.0.nodes }
 {
     let Ok(polled) = PolledSockets::new(rt.alloc(), rt) else {
         return Err(Stop::Run(RunFault::Socket));
     };
-    let mut sockets = TellingSockets::new(polled, rt.stderr());
+    let Ok(strain) = Rc::new(rt.alloc(), Strain::new()) else {
+        return Err(Stop::Run(RunFault::NoMemory));
+    };
+    let mut refused_here = None;
+    let telling = TellingSockets::new(polled, rt.stderr(), shared(&strain)?, &mut refused_here);
+    let mut sockets = HoldingSockets::new(rt.alloc(), telling, shared(&strain)?);
     let mut clock = SteadyClock::new(RealClocks::new(rt));
-    let status = place_of(rt, names, bounds.most_memory, status)?;
-    let error = if log { Some(rt.stderr()) } else { None };
-    let gauge = TellingGauge::new(gauge_of(rt, &bounds), rt.stderr());
-    let losses = if log { Some(rt.stderr()) } else { None };
+    let mut refused_status = None;
+    let most_memory = service.bounds.most_memory;
+    let status = place_of(rt, names, most_memory, service.status, &mut refused_status)?;
+    let error = if service.log { Some(rt.stderr()) } else { None };
+    let gauge = TellingGauge::new(gauge_of(rt, &service.bounds), rt.stderr());
+    let losses = if service.log { Some(rt.stderr()) } else { None };
     let mut out = rt.stdout();
-    node_server::serve(
+    let served = node_server::serve(
         rt.alloc(),
         &mut sockets,
         &mut clock,
         rows,
         place,
-        at,
+        service.at,
         tables,
         access,
-        (bounds, gauge),
-        limits,
-        mqtt3,
+        (service.bounds, gauge),
+        service.limits,
+        service.mqtt3,
         error,
         losses,
         status,
-        turns,
+        Some(strain),
+        turns_of(&service),
         &mut out,
-    )?;
+    );
+    drop(sockets);
+    *refused = refused_here.or(refused_status);
+    served?;
     Ok(())
 }

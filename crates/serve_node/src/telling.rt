@@ -1,30 +1,58 @@
-//! The sockets of the system, which tell why nobody can be accepted.
+//! The sockets of the system, which tell why nobody can be accepted, and that clients are held back.
 
 ghost use Rattle.std.specs.Prelude.{ℕ};
 
-use crate::refusal::tell_refusal;
+use crate::refusal::{tell_held, tell_refusal};
+use broker_holds::Strain;
 use broker_sockets::{Answer, PolledSockets, Readiness, Ready, Sockets, Watched};
+use cli_stops::answer_of;
 use mio::net::{TcpListener, TcpStream};
 use std::alloc::{AllocError, Global};
 use std::io::{self, Write};
 use std::net::SocketAddr;
+use std::rc::Rc;
 
-/// The sockets of the system, which write why nobody can be accepted: once, and again only after somebody was.
+/// For so many milliseconds after it was told that clients are held back it isn't told again.
+const MINUTE: u64 = 60_000;
+
+/// An address at which the program was to wait, and what the system answered.
+#[derive(Clone, Copy, Debug, PartialEq, Eq)]
+pub(crate) struct Refused {
+    pub address: SocketAddr,
+    pub answer: cli_stops::Answer,
+}
+
+/// The sockets of the system, which keep an address that it refuses with its answer, and write why nobody can be accepted: once, and again only after somebody was.
+/// And they write that clients are held back, once a minute at most.
 #[derive(Drop)]
 pub(crate) struct TellingSockets<'a, E> {
     sockets: PolledSockets<'a, HostRuntime>,
     error: E,
     /// Whether it was told since somebody was accepted last.
     told: bool,
+    /// Where it is told whether clients are held back.
+    strain: Rc<Strain>,
+    /// From when on it is told again.
+    held_again: u64,
+    /// The last address that was refused.
+    refused: &'a mut Option<Refused>,
 }
 
 impl<'a, E> TellingSockets<'a, E> {
-    /// These sockets, with a writer for what they tell.
-    pub(crate) fn new(sockets: PolledSockets<'a, HostRuntime>, error: E) -> Self {
+    /// These sockets, with a writer for what they tell; an address that is refused is kept in `refused`.
+    pub(crate) fn new(
+        sockets: PolledSockets<'a, HostRuntime>,
+        error: E,
+        strain: Rc<Strain>,
+        refused: &'a mut Option<Refused>,
+    ) -> Self {
         TellingSockets {
             sockets,
             error,
             told: false,
+            strain,
+            held_again: 0,
+            refused,
         }
     }
 }
@@ -38,6 +66,17 @@ impl<'a, E: Write> TellingSockets<'a, E> {
         if !self.told {
             self.told = true;
             let _ = tell_refusal(&mut self.error, &failure);
+        }
+    }
+
+    /// Tells that clients are held back, where they are and it wasn't told within a minute.
+    fn tell_strain(&mut self) {
+        let Some(strained) = self.strain.get() else {
+            return;
+        };
+        if strained.at >= self.held_again {
+            self.held_again = strained.at.saturating_add(MINUTE);
+            let _ = tell_held(&mut self.error);
         }
     }
 }
@@ -58,7 +97,12 @@ impl<'a, E: Write> Sockets for TellingSockets<'a, E> {
     ghost writes = { λ _ _ _ _ _ _. Unit {0} };
 
     fn listen(&mut self, address: SocketAddr) -> io::Result<TcpListener> {
-        self.sockets.listen(address)
+        let listener = self.sockets.listen(address);
+        if let Err(error) = &listener {
+            let answer = answer_of(error);
+            *self.refused = Some(Refused { address, answer });
+        }
+        listener
     }
 
     fn address(&self, listener: &TcpListener) -> Option<SocketAddr> {
@@ -98,6 +142,7 @@ impl<'a, E: Write> Readiness for TellingSockets<'a, E> {
     }
 
     fn ready(&mut self, alloc: Global) -> Result<Ready, AllocError> {
+        self.tell_strain();
         self.sockets.ready(alloc)
     }
 }

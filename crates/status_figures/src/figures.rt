@@ -42,6 +42,17 @@ impl LeftOut {
     }
 }
 
+/// What users were not allowed since the node started. The clients that were not let in are told by their Reason Codes.
+#[derive(Clone, Copy, Debug, PartialEq, Eq)]
+pub struct NotAllowed {
+    /// PUBLISH packets.
+    pub publishes: u64,
+    /// Filters of SUBSCRIBE packets.
+    pub filters: u64,
+    /// Messages that were not sent, since their receiver may not read them; each of them ended its connection.
+    pub messages: u64,
+}
+
 /// What is told of a node.
 #[derive(Drop)]
 pub struct Figures {
@@ -71,6 +82,7 @@ pub struct Figures {
     /// How many connections the node ended, by the Reason Code of DISCONNECT, where any were.
     pub ended: Vec<CodeCount>,
     pub left_out: LeftOut,
+    pub not_allowed: NotAllowed,
     /// What went through it since it started.
     pub total: Traffic,
     /// What went through it in the last ten seconds.

@@ -8,7 +8,7 @@ mod traffic;
 mod usage;
 
 pub use codes::CodeCount;
-pub use figures::{Figures, LeftOut};
+pub use figures::{Figures, LeftOut, NotAllowed};
 pub use peer::Peer;
 pub use traffic::Traffic;
 pub use usage::Usage;

@@ -5,6 +5,7 @@ use Rattle.serde_json.specs.Written.{compact_text}
 use Rattle.status_figures.specs.declared.codes.CodeCount.{CodeCount}
 use Rattle.status_figures.specs.declared.figures.Figures.{Figures}
 use Rattle.status_figures.specs.declared.figures.LeftOut.{LeftOut}
+use Rattle.status_figures.specs.declared.figures.NotAllowed.{NotAllowed}
 use Rattle.status_figures.specs.declared.traffic.Traffic.{Traffic}
 use Rattle.status_figures.specs.declared.peer.Peer.{Peer}
 use Rattle.status_figures.specs.declared.usage.Usage.{Usage}
@@ -60,6 +61,17 @@ with_left_out left_out text =
     ++ next_number (codes "frames_too_large") left_out.frames_too_large
     ++ next_number (codes "tables_refused") left_out.tables_refused
     ++ codes "}"
+
+-- what users were not allowed
+unfoldable pub with_counts_not_allowed : NotAllowed → List ℕ → List ℕ
+with_counts_not_allowed not_allowed text =
+    text
+    ++ number_member (codes ",\"not_allowed\":{") (codes "publishes") not_allowed.publishes
+    ++ next_number (codes "filters") not_allowed.filters
+    ++ next_number (codes "messages") not_allowed.messages
+
+unfoldable pub with_not_allowed : NotAllowed → List ℕ → List ℕ
+with_not_allowed not_allowed text = with_counts_not_allowed not_allowed text ++ codes "}"
 
 unfoldable pub with_clients : List ℕ → Traffic → List ℕ → List ℕ
 with_clients before traffic text =
@@ -129,11 +141,11 @@ abbrev pub with_peers : ℕ → List Peer → List ℕ → List ℕ
 with_peers index [] text = text
 with_peers index (peer ∷ peers) text = with_peers (suc index) peers (with_peer index peer text)
 
--- the node, what it holds and takes, what it left out, what went through, who was refused, and its peers
+-- the node, what it holds and takes, what it left out, what its users were not allowed, what went through, who was refused, and its peers
 abbrev pub status_text : Figures → List ℕ
 status_text figures =
     with_peers 0 figures.peers.items
-    (with_refusals figures (with_traffic figures (with_left_out figures.left_out (with_refusal figures (with_usage figures.usage (with_counts figures
-    (with_node (compact_text (string figures.name.bytes.items)) figures []))))))
+    (with_refusals figures (with_traffic figures (with_not_allowed figures.not_allowed (with_left_out figures.left_out (with_refusal figures (with_usage figures.usage (with_counts figures
+    (with_node (compact_text (string figures.name.bytes.items)) figures [])))))))
     ++ codes "],\"peers\":[")
     ++ codes "]}\n"

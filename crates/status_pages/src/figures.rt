@@ -1,12 +1,12 @@
 //! The figures of a node in JSON.
 
 ghost use Rattle.std.specs.Prelude.{◌≡◌, ◌++◌, codes, string_bytes, IfOk, OnOk};
-ghost use Rattle.status_pages.specs.Status.{status_text, with_clients, with_counts, with_left_out, with_links, with_node, with_refusal, with_refusals, with_traffic, with_usage};
+ghost use Rattle.status_pages.specs.Status.{status_text, with_clients, with_counts, with_left_out, with_links, with_node, with_not_allowed, with_counts_not_allowed, with_refusal, with_refusals, with_traffic, with_usage};
 
 use crate::codes::push_codes;
 use crate::members::{known_text, push_member, push_number, quoted, quoted_text, truth};
 use crate::peers::push_peers;
-use status_figures::{Figures, LeftOut, Traffic, Usage};
+use status_figures::{Figures, LeftOut, NotAllowed, Traffic, Usage};
 use std::alloc::{AllocError, Global};
 
 /// The name of the node in its quotes, its number, the version of its table of homes, its uptime, and whether all have caught up.
@@ -73,6 +73,30 @@ fn push_left_out(text: &mut String, left_out: &LeftOut) -> Result<(), AllocError
     text.push_str("}")
 }
 
+/// How many times users were not allowed something, behind what opens the object.
+#[tactic(auto, unfolding(crate::specs::Status::with_counts_not_allowed))]
+fn push_counts_not_allowed(text: &mut String, not_allowed: &NotAllowed) -> Result<(), AllocError>
+    ensures { OnOk result (string_bytes text.new ≡ with_counts_not_allowed not_allowed.now (string_bytes text.old)) }
+{
+    push_number(
+        text,
+        ",\"not_allowed\":{",
+        "publishes",
+        not_allowed.publishes,
+    )?;
+    push_number(text, ",", "filters", not_allowed.filters)?;
+    push_number(text, ",", "messages", not_allowed.messages)
+}
+
+/// What users were not allowed.
+#[tactic(auto, unfolding(crate::specs::Status::with_not_allowed))]
+fn push_not_allowed(text: &mut String, not_allowed: &NotAllowed) -> Result<(), AllocError>
+    ensures { OnOk result (string_bytes text.new ≡ with_not_allowed not_allowed.now (string_bytes text.old)) }
+{
+    push_counts_not_allowed(text, not_allowed)?;
+    text.push_str("}")
+}
+
 /// What went through for clients, behind what stands before.
 #[tactic(auto, unfolding(crate::specs::Status::with_clients))]
 fn push_clients(text: &mut String, before: &str, traffic: &Traffic) -> Result<(), AllocError>
@@ -134,6 +158,7 @@ pub fn json_of(alloc: Global, figures: &Figures) -> Result<String, AllocError>
     push_usage(alloc, &mut text, &figures.usage)?;
     push_refusal(alloc, &mut text, figures)?;
     push_left_out(&mut text, &figures.left_out)?;
+    push_not_allowed(&mut text, &figures.not_allowed)?;
     push_traffic(&mut text, figures)?;
     push_refusals(&mut text, figures)?;
     text.push_str("],\"peers\":[")?;

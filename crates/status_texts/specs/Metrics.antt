@@ -4,6 +4,7 @@ use Rattle.std.specs.Fmt.{decimal}
 use Rattle.status_figures.specs.declared.codes.CodeCount.{CodeCount}
 use Rattle.status_figures.specs.declared.figures.Figures.{Figures}
 use Rattle.status_figures.specs.declared.figures.LeftOut.{LeftOut}
+use Rattle.status_figures.specs.declared.figures.NotAllowed.{NotAllowed}
 use Rattle.status_figures.specs.declared.traffic.Traffic.{Traffic}
 use Rattle.status_figures.specs.declared.peer.Peer.{Peer}
 use Rattle.status_figures.specs.declared.usage.Usage.{Usage}
@@ -89,6 +90,14 @@ with_links total text =
     (with_counter (codes "mqtt_cluster_frames_received_total") (codes "Frames from peers.") total.frames_received
     text)))
 
+-- what users were not allowed
+unfoldable pub with_not_allowed : NotAllowed → List ℕ → List ℕ
+with_not_allowed not_allowed text =
+    with_counter (codes "mqtt_messages_withheld_total") (codes "Messages that their receiver may not read.") not_allowed.messages
+    (with_counter (codes "mqtt_filters_refused_total") (codes "Filters to which their client may not subscribe.") not_allowed.filters
+    (with_counter (codes "mqtt_publishes_refused_total") (codes "PUBLISH packets that their client may not send.") not_allowed.publishes
+    text))
+
 unfoldable pub with_dropped : LeftOut → List ℕ → List ℕ
 with_dropped left_out text =
     text
@@ -171,8 +180,8 @@ with_refused figures text =
 unfoldable pub with_losses : LeftOut → List ℕ → List ℕ
 with_losses left_out text = with_tables left_out (with_frames_dropped left_out (with_dropped left_out text))
 
--- the node, what it holds, what went through, who was refused, what was left out, and its peers
+-- the node, what it holds, what went through, who was refused, what was not allowed, what was left out, and its peers
 abbrev pub metrics_text : Figures → List ℕ
 metrics_text figures =
-    with_cluster figures (with_peer_links figures (with_untaken figures (with_losses figures.left_out (with_refused figures (with_counts figures
-    (with_info (label figures.name.bytes.items) figures.number []))))))
+    with_cluster figures (with_peer_links figures (with_untaken figures (with_losses figures.left_out (with_not_allowed figures.not_allowed (with_refused figures (with_counts figures
+    (with_info (label figures.name.bytes.items) figures.number [])))))))

@@ -4,6 +4,7 @@ use Rattle.std.specs.declared.alloc.Global.{Global}
 use Rattle.std.specs.Fmt.{decimal}
 use Rattle.status_figures.specs.declared.figures.Figures.{Figures}
 use Rattle.status_figures.specs.declared.figures.LeftOut.{LeftOut}
+use Rattle.status_figures.specs.declared.figures.NotAllowed.{NotAllowed}
 use Rattle.status_figures.specs.declared.traffic.Traffic.{Traffic}
 use Rattle.status_figures.specs.declared.usage.Usage.{Usage}
 use Rattle.status_figures.specs.Figures.{agrees, is_short, is_well, is_whole}
@@ -129,6 +130,15 @@ with_codes figures text =
     (text ++ codes "<h2>Refused and ended since the start</h2>\n<table>\n"))
     ++ codes "</table>\n"
 
+-- what users were not allowed
+unfoldable pub with_not_allowed : NotAllowed → List ℕ → List ℕ
+with_not_allowed not_allowed text =
+    with_number (codes "Messages that their receiver may not read") not_allowed.messages
+    (with_number (codes "Filters of subscriptions") not_allowed.filters
+    (with_number (codes "Publishes") not_allowed.publishes
+    (text ++ codes "<h2>Not allowed since the start</h2>\n<table>\n")))
+    ++ codes "</table>\n"
+
 unfoldable pub with_tail : List ℕ → List ℕ
 with_tail text = text ++ codes "</main>\n<script>" ++ SCRIPT.now ++ codes "</script>\n</body>\n</html>\n"
 
@@ -137,10 +147,10 @@ unfoldable pub peers_head : List ℕ
 peers_head = codes "<h2>Peers</h2>\n<table>\n<tr><th>Name</th><th>Bridge</th><th>Link</th><th>State</th><th>Messages that wait</th></tr>\n"
 
 -- the head, whether the cluster agrees, whether anything was left out, whether the file's table is taken and whether memory is short, then the node itself, its
--- peers, what went through, who was refused, and what was left out
+-- peers, what went through, who was refused, what was not allowed, and what was left out
 abbrev pub page_text : Figures → List ℕ
 page_text figures =
-    with_tail (with_frames_dropped figures.left_out (with_dropped figures.left_out (with_codes figures (with_links figures.recent (with_clients figures.recent
+    with_tail (with_frames_dropped figures.left_out (with_dropped figures.left_out (with_not_allowed figures.not_allowed (with_codes figures (with_links figures.recent (with_clients figures.recent
     (with_peers figures.peers.items
     (with_turns figures.longest_turn (with_files figures.usage (with_memory figures.usage (with_held figures (with_node figures
     (with_head (escaped figures.name.bytes.items) []
@@ -149,4 +159,4 @@ page_text figures =
     ++ untaken_text figures.refusal
     ++ short_text (is_short figures.usage))))))
     ++ peers_head)
-    ++ codes "</table>\n"))))))
+    ++ codes "</table>\n")))))))

@@ -1,12 +1,12 @@
 //! The metrics of a node, in Prometheus' text format.
 
 ghost use Rattle.std.specs.Prelude.{◌≡◌, ◌++◌, ◌/◌, ◌%◌, string_bytes, IfOk, OnOk};
-ghost use Rattle.status_texts.specs.Metrics.{as_number, info_name, info_number, metrics_text, number_of, sample, thousandths_line, with_clients, with_cluster, with_codes, with_counts, with_dropped, with_frames_dropped, with_held, with_info, with_known, with_links, with_losses, with_node, with_peer_links, with_peer_metric, with_refused, with_samples, with_seconds, with_tables, with_turns, with_untaken, with_usage};
+ghost use Rattle.status_texts.specs.Metrics.{as_number, info_name, info_number, metrics_text, number_of, sample, thousandths_line, with_clients, with_cluster, with_codes, with_counts, with_dropped, with_frames_dropped, with_held, with_info, with_known, with_links, with_losses, with_node, with_not_allowed, with_peer_links, with_peer_metric, with_refused, with_samples, with_seconds, with_tables, with_turns, with_untaken, with_usage};
 
 use crate::codes::push_code_lines;
 use crate::escape::label;
 use crate::lines::{push_counter, push_family, push_gauge, push_peer, push_reason};
-use status_figures::{CodeCount, Figures, LeftOut, Peer, Traffic, Usage};
+use status_figures::{CodeCount, Figures, LeftOut, NotAllowed, Peer, Traffic, Usage};
 use std::alloc::{AllocError, Global};
 
 /// The name of the metric of the node itself.
@@ -257,6 +257,31 @@ fn push_links(text: &mut String, total: &Traffic) -> Result<(), AllocError>
     )
 }
 
+/// What users were not allowed since the node started.
+#[tactic(auto, unfolding(crate::specs::Metrics::with_not_allowed))]
+fn push_not_allowed(text: &mut String, not_allowed: &NotAllowed) -> Result<(), AllocError>
+    ensures { OnOk result (string_bytes text.new ≡ with_not_allowed not_allowed.now (string_bytes text.old)) }
+{
+    push_counter(
+        text,
+        "mqtt_publishes_refused_total",
+        "PUBLISH packets that their client may not send.",
+        not_allowed.publishes,
+    )?;
+    push_counter(
+        text,
+        "mqtt_filters_refused_total",
+        "Filters to which their client may not subscribe.",
+        not_allowed.filters,
+    )?;
+    push_counter(
+        text,
+        "mqtt_messages_withheld_total",
+        "Messages that their receiver may not read.",
+        not_allowed.messages,
+    )
+}
+
 /// The messages that the node left out since it started.
 #[tactic(auto, unfolding(crate::specs::Metrics::with_dropped))]
 fn push_dropped(text: &mut String, left_out: &LeftOut) -> Result<(), AllocError>
@@ -467,6 +492,7 @@ pub fn metrics_of(alloc: Global, figures: &Figures) -> Result<String, AllocError
     push_info(&mut text, &name, figures.number)?;
     push_counts(&mut text, figures)?;
     push_refused(alloc, &mut text, figures)?;
+    push_not_allowed(&mut text, &figures.not_allowed)?;
     push_losses(&mut text, &figures.left_out)?;
     push_untaken(&mut text, figures)?;
     push_peer_links(alloc, &mut text, figures)?;

@@ -1,13 +1,13 @@
 //! The page of a node: one document that asks for nothing but itself, and is read without its script.
 
 ghost use Rattle.std.specs.Prelude.{◌≡◌, ◌++◌, string_bytes, IfOk, OnOk};
-ghost use Rattle.status_texts.specs.Page.{apart_words, loss_text, page_text, peers_head, sentence, short_text, untaken_text, untaken_words, verdict_class, verdict_text, with_clients, with_codes, with_dropped, with_files, with_frames_dropped, with_head, with_held, with_links, with_memory, with_node, with_tail, with_turns};
+ghost use Rattle.status_texts.specs.Page.{apart_words, loss_text, page_text, peers_head, sentence, short_text, untaken_text, untaken_words, verdict_class, verdict_text, with_clients, with_codes, with_dropped, with_files, with_frames_dropped, with_head, with_held, with_links, with_memory, with_node, with_not_allowed, with_tail, with_turns};
 
 use crate::codes::push_code_rows;
 use crate::escape::escaped;
 use crate::peers::push_peers;
 use crate::rows::{push_loss, push_number, push_row, push_state, size_text, uptime_text};
-use status_figures::{Figures, LeftOut, Traffic, Usage};
+use status_figures::{Figures, LeftOut, NotAllowed, Traffic, Usage};
 use std::alloc::{AllocError, Global};
 
 /// What stands before the title.
@@ -279,6 +279,22 @@ fn push_codes(text: &mut String, figures: &Figures) -> Result<(), AllocError>
     text.push_str("</table>\n")
 }
 
+/// What users were not allowed.
+#[tactic(auto, unfolding(crate::specs::Page::with_not_allowed))]
+fn push_not_allowed(text: &mut String, not_allowed: &NotAllowed) -> Result<(), AllocError>
+    ensures { OnOk result (string_bytes text.new ≡ with_not_allowed not_allowed.now (string_bytes text.old)) }
+{
+    text.push_str("<h2>Not allowed since the start</h2>\n<table>\n")?;
+    push_number(text, "Publishes", not_allowed.publishes)?;
+    push_number(text, "Filters of subscriptions", not_allowed.filters)?;
+    push_number(
+        text,
+        "Messages that their receiver may not read",
+        not_allowed.messages,
+    )?;
+    text.push_str("</table>\n")
+}
+
 /// The end of the page, with its script.
 #[tactic(auto, unfolding(crate::specs::Page::with_tail))]
 fn push_tail(text: &mut String) -> Result<(), AllocError>
@@ -317,6 +333,7 @@ pub fn page_of(alloc: Global, figures: &Figures) -> Result<String, AllocError>
     push_clients(&mut text, &figures.recent)?;
     push_links(&mut text, &figures.recent)?;
     push_codes(&mut text, figures)?;
+    push_not_allowed(&mut text, &figures.not_allowed)?;
     push_dropped(&mut text, &figures.left_out)?;
     push_frames_dropped(&mut text, &figures.left_out)?;
     push_tail(&mut text)?;

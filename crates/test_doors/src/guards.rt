@@ -135,6 +135,7 @@ fn turned_away(rt: &impl Abort, alloc: Global, bytes: &[u8], code: u8) {
         connects: 1,
         publishes: 0,
         filters: 0,
+        messages: 0,
     };
     assert!(rt; guard.refusals() == one);
     drop(guard);
@@ -182,6 +183,7 @@ fn a_publish_that_may_not_be_is_answered(rt: HostRuntime) {
         connects: 0,
         publishes: 3,
         filters: 0,
+        messages: 0,
     };
     assert!(rt; guard.refusals() == three);
     // on "a"
@@ -247,6 +249,7 @@ fn filters_that_may_not_be_are_refused_in_their_places(rt: HostRuntime) {
         connects: 0,
         publishes: 1,
         filters: 3,
+        messages: 0,
     };
     assert!(rt; guard.refusals() == refused);
     drop(guard);
@@ -261,6 +264,13 @@ fn what_may_not_be_read_ends_the_connection(rt: HostRuntime) {
     assert!(rt; answer.as_slice() == b"\x30\x04\x00\x01b\x00".as_slice());
     let answer = come(&rt, alloc, &mut guard, b"\x30\x05\x00\x01a\x00z\xc0\x00");
     assert!(rt; answer.as_slice() == ENDED);
+    let one = Refusals {
+        connects: 0,
+        publishes: 0,
+        filters: 0,
+        messages: 1,
+    };
+    assert!(rt; guard.refusals() == one);
     // what came behind it isn't told; the end is, before what comes next
     assert!(rt; told(&guard) == b"\x30\x05\x00\x01a\x00b\x30\x05\x00\x01a\x00z".as_slice());
     sent_at(&rt, alloc, &mut guard, EventKind::Opened { connection: 1 });

@@ -75,6 +75,21 @@ fn told(rt: &impl Abort, alloc: Global, line: &str) -> String {
                 database,
             },
         ) => { format!(in alloc; "check {configuration} {node} {database}") }
+        Ok(
+            Task::DropRows {
+                configuration,
+                node,
+                database,
+                session,
+                queue,
+                lane,
+            },
+        ) => {
+            format!(in alloc;
+                "drop {configuration} {node} {database} ({session:?}, {queue:?}, {lane:?})"
+            )
+        }
+        Ok(Task::Balancer { configuration }) => format!(in alloc; "balancer {configuration}"),
         Err(stop) => {
             let mut out: Vec<u8> = Vec::new(alloc);
             let mut err: Vec<u8> = Vec::new(alloc);
@@ -162,6 +177,17 @@ fn reads_command_lines(rt: HostRuntime) {
         ),
         ("password alice", "password alice"),
         ("check c.toml n0 d.db", "check c.toml n0 d.db"),
+        (
+            "drop c.toml n0 d.db --queue a",
+            "drop c.toml n0 d.db (None, Some(\"a\"), None)",
+        ),
+        (
+            "drop c.toml n0 d.db --session a --lane n1",
+            "drop c.toml n0 d.db (Some(\"a\"), None, Some(\"n1\"))",
+        ),
+        ("drop --help", "0 (true, false)"),
+        ("balancer c.toml", "balancer c.toml"),
+        ("balancer --help", "0 (true, false)"),
         ("check --help", "0 (true, false)"),
         ("--help", "0 (true, false)"),
         ("--version", "0 (true, false)"),
@@ -238,6 +264,12 @@ fn refuses_command_lines(rt: HostRuntime) {
         ("check c.toml n0 d.db --log", "2 (false, true)"),
         ("check c.toml n0", "2 (false, true)"),
         ("check c.toml n0 d.db --turns 1", "2 (false, true)"),
+        ("drop c.toml n0 --queue a", "2 (false, true)"),
+        ("drop c.toml n0 d.db --queue", "2 (false, true)"),
+        ("drop c.toml n0 d.db --retained a", "2 (false, true)"),
+        ("balancer", "2 (false, true)"),
+        ("balancer c.toml n0", "2 (false, true)"),
+        ("balancer c.toml --listen here", "2 (false, true)"),
     ];
     for (line, expected) in lines {
         let found = told(&rt, alloc, line);

@@ -6,9 +6,13 @@
 #![tactic(auto)]
 
 #[cfg(test)]
+mod balancers;
+#[cfg(test)]
 mod command_lines;
 #[cfg(test)]
 mod configurations;
+#[cfg(test)]
+mod drops;
 #[cfg(test)]
 mod files;
 #[cfg(test)]

@@ -90,6 +90,12 @@ fn ends_with_a_status_and_a_text(rt: HostRuntime) {
         (Stop::from(RunFault::Spent), 1, "", "broker: run: Spent\n"),
         (Stop::from(RunFault::Rows), 1, "", "broker: run: Rows\n"),
         (
+            Stop::from(RunFault::OlderTable(5)),
+            1,
+            "",
+            "broker: run: OlderTable\n",
+        ),
+        (
             Stop::from(RunFault::NumbersAtEnd),
             1,
             "",

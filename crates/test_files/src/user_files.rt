@@ -1,6 +1,6 @@
 //! Files of users and of permissions with which a node can start, and those with which it can't; lines of users that the program prints.
 
-use cli_files::{print_user_line, read_access};
+use cli_files::{print_user_line, random_salt, read_access};
 use door_users::{Entry, Users};
 use std::{fs, str};
 
@@ -120,10 +120,13 @@ fn rules_are_for_users(rt: HostRuntime) {
 fn prints_lines_that_let_in(rt: HostRuntime) {
     let alloc = rt.alloc();
     let mut text: Vec<u8> = Vec::new(alloc);
-    print_user_line(&rt, "dora", b"secret", &mut text)
+    let salt = random_salt(&rt).ok().expect(&rt, "a salt");
+    let other = random_salt(&rt).ok().expect(&rt, "another salt");
+    assert!(rt; salt != other);
+    print_user_line(alloc, "dora", b"secret", &salt, &mut text)
         .ok()
         .expect(&rt, "a line");
-    print_user_line(&rt, "emil", b"secret", &mut text)
+    print_user_line(alloc, "emil", b"secret", &other, &mut text)
         .ok()
         .expect(&rt, "a line");
     let lines = str::from_utf8(&text).expect(&rt, "text");
@@ -132,7 +135,7 @@ fn prints_lines_that_let_in(rt: HostRuntime) {
     assert_eq!(&rt; users.admits("emil", b"secret"), Entry::Admitted);
     assert_eq!(&rt; users.admits("dora", b"Secret"), Entry::WrongPassword);
     drop(users);
-    let refused = print_user_line(&rt, "d:ora", b"secret", &mut text);
+    let refused = print_user_line(alloc, "d:ora", b"secret", &salt, &mut text);
     assert!(rt; refused.is_err());
     drop(refused);
 }

@@ -115,6 +115,7 @@ fn served<R: RowStore + Drop>(
         log,
         None,
         nowhere,
+        None,
         10,
         &mut out,
     )

@@ -2,6 +2,8 @@
 #![tactic(auto)]
 
 #[cfg(test)]
+mod holds;
+#[cfg(test)]
 mod hubs;
 #[cfg(test)]
 mod lent;

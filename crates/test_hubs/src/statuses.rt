@@ -77,6 +77,7 @@ fn ends_so(
         silent,
         None,
         Some(place),
+        None,
         40,
         &mut out,
     );

@@ -99,6 +99,7 @@ fn gets(rt: &impl Abort, alloc: Global, version: u32, from: u64, got: &[u8]) -> 
         silent,
         None,
         nowhere,
+        None,
         10,
         &mut out,
     );

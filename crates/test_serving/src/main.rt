@@ -3,7 +3,13 @@
 #![tactic(auto)]
 
 #[cfg(test)]
+mod causes;
+#[cfg(test)]
+mod checks;
+#[cfg(test)]
 mod databases;
+#[cfg(test)]
+mod openings;
 #[cfg(test)]
 mod served;
 #[cfg(test)]

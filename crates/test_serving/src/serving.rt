@@ -169,6 +169,7 @@ fn serve_for(
         silent,
         None,
         nowhere,
+        None,
         turns,
         out,
     )

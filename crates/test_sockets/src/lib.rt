@@ -7,6 +7,8 @@ mod clients;
 #[cfg(test)]
 mod echo;
 #[cfg(test)]
+mod holds;
+#[cfg(test)]
 mod links;
 #[cfg(test)]
 mod moments;

@@ -1,6 +1,6 @@
 //! The figures that are told.
 
-use status_figures::{CodeCount, Figures, LeftOut, Peer, Traffic, Usage};
+use status_figures::{CodeCount, Figures, LeftOut, NotAllowed, Peer, Traffic, Usage};
 use std::alloc::Global;
 use std::process::Abort;
 
@@ -95,13 +95,18 @@ pub(crate) fn figures(rt: &impl Abort, alloc: Global, lacking: u64) -> Figures {
             frames_too_large: 26,
             tables_refused: 27,
         },
+        not_allowed: NotAllowed {
+            publishes: 51,
+            filters: 52,
+            messages: 53,
+        },
         total: traffic(100),
         recent: traffic(30),
         peers,
     }
 }
 
-/// A node with two equal peers, at which nothing lacks and nothing was left out.
+/// A node with two equal peers, at which nothing lacks and nothing was left out. What users were not allowed is no fault of it.
 pub(crate) fn well(rt: &impl Abort, alloc: Global) -> Figures {
     let mut told = figures(rt, alloc, 0);
     told.refusal = None;

@@ -17,5 +17,7 @@ returns c =
     let served = c.in_ok-subcommand-3.ensures.shape c.in_ok-serve.ensures.1 ∙ ap₂ with_subcommand looped (ap (λ (a : App). a.top) c.in_ok-serve.ensures.0) in
     let ran = c.in_ok-subcommand-4.ensures.shape c.in_ok-run.ensures.1 ∙ ap₂ with_subcommand served (ap (λ (a : App). a.top) c.in_ok-run.ensures.0) in
     let checked = c.in_ok-subcommand-5.ensures.shape c.in_ok-check.ensures.1 ∙ ap₂ with_subcommand ran (ap (λ (a : App). a.top) c.in_ok-check.ensures.0) in
-    IfOk-weaker c.subcommand-6.result _ _
-    (λ r added. added.shape c.in_ok-password.ensures.1 ∙ ap₂ with_subcommand checked (ap (λ (a : App). a.top) c.in_ok-password.ensures.0)) c.subcommand-6.ensures
+    let written = c.in_ok-subcommand-6.ensures.shape c.in_ok-password.ensures.1 ∙ ap₂ with_subcommand checked (ap (λ (a : App). a.top) c.in_ok-password.ensures.0) in
+    let balanced = c.in_ok-subcommand-7.ensures.shape c.in_ok-balancer.ensures.1 ∙ ap₂ with_subcommand written (ap (λ (a : App). a.top) c.in_ok-balancer.ensures.0) in
+    IfOk-weaker c.subcommand-8.result _ _
+    (λ r added. added.shape c.in_ok-drop.ensures.1 ∙ ap₂ with_subcommand balanced (ap (λ (a : App). a.top) c.in_ok-drop.ensures.0)) c.subcommand-8.ensures

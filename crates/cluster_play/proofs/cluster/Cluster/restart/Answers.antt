@@ -1,6 +1,6 @@
 use Rattle.std.proofs.Common.{◌<◌, ◌++◌, ◌∷◌, [], ◌∙◌, Err, ap, sym, arith, length}
 use Rattle.std.proofs.lemmas.List.{append-nil}
-use Rattle.node_keeper.specs.Views.{rows_of}
+use Rattle.node_keeper.specs.Views.{node_of, rows_of}
 use Rattle.cluster_play.specs.Clusters.{site_of}
 use Rattle.cluster_play.specs.declared.line.Line.TheVariants.{Fault}
 use Rattle.cluster_play.specs.Worlds.{Faulted, Restarted}
@@ -13,7 +13,7 @@ returns-in-Ok-clause-ok c =
     let i = c.args.node in
     let k = c.index_mut.result.now in
     let below : i < length nodes.items = omega (arith, nodes.ok.0, c.requires) in (
-      Restarted i,
+      Restarted i (node_of k).homes,
       restarted nodes.items c.args.self.now.frames.items i k below c.index_mut.ensures.value c.reopen.new.self (c.in-Ok.ensures.ok tt tt).1,
       c.reserve.ensures.items ∙ sym (append-nil c.args.lines.now.items),
     )

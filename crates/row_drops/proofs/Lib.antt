@@ -1,0 +1,5 @@
+mod Edited
+mod Queues
+mod Sessions
+mod Lanes
+mod Nodes
