@@ -1,5 +1,7 @@
 //! What is dropped of rows of node 1 of two, and what their node is then.
 
+ghost use Rattle.row_drops.specs.Dropping.{IsInside};
+
 use cli_drops::report;
 use cli_reports::figures_of;
 use row_drops::{Target, changes_of, drop_in};
@@ -95,7 +97,9 @@ fn store(rt: &impl Abort, alloc: Global, plain: &[Plain]) -> MemoryRows {
 }
 
 /// Whether dropping this is told so, and leaves these rows, which are a node's.
-fn leaves(rt: &impl Abort, alloc: Global, target: Target, told: &str, expected: &[Plain]) -> bool {
+fn leaves(rt: &impl Abort, alloc: Global, target: Target, told: &str, expected: &[Plain]) -> bool
+    requires { IsInside target 2 }
+{
     let mut store = store(rt, alloc, &ROWS);
     let changes = drop_in(alloc, &mut store, 1, 2, &target).expect(rt, "a node's rows");
     let text = report(alloc, &changes).expect(rt, "memory");
