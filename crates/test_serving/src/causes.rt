@@ -21,11 +21,11 @@ fn homes_at(alloc: Global, address: &str, bridge: &str) -> Option<String> {
 
 /// What serving a node for one turn ends with that waits at these addresses, with its status told at an address or nowhere, and nothing where
 /// all went well.
-fn told_at(
+fn told_at<'x>(
     rt: &HostRuntime,
     names: (&str, &str, &str),
-    at: ListenAt<'_>,
-    status: Option<&str>,
+    at: ListenAt<'x>,
+    status: Option<&'x str>,
 ) -> String {
     let (configuration, node, database) = names;
     let names = Named {
