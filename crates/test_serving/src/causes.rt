@@ -189,28 +189,40 @@ fn an_address_that_is_none_is_told(rt: HostRuntime) {
     }
 }
 
+/// Whether serving n0 ends with this text where it is to wait at these addresses.
+fn ends_at<'x>(
+    rt: &HostRuntime,
+    clients: Option<&'x str>,
+    nodes: Option<&'x str>,
+    text: &str,
+) -> bool {
+    let names = ("listen.toml", "n0", "listen.db");
+    let at = ListenAt { clients, nodes };
+    told_at(rt, names, at, None).as_str() == text
+}
+
 #[test]
 fn an_address_to_wait_at_that_is_none_is_told(rt: HostRuntime) {
     let any = Some("127.0.0.1:0");
     let named = "node.example:1883";
     let homes = homes_at(rt.alloc(), named, named).expect(&rt, "memory");
     fs::write(&rt, "listen.toml", homes.as_str()).expect(&rt, "a file");
-    let names = ("listen.toml", "n0", "listen.db");
-    for (clients, nodes, text) in [
-        (
+    assert!(rt;
+        ends_at(
+            &rt,
             Some("192.0.2.1:1883"),
             any,
-            "broker: run: Socket\nbroker: waiting at 192.0.2.1:1883: the address is none of this machine",
-        ),
-        (
+            "broker: run: Socket\nbroker: waiting at 192.0.2.1:1883: the address is none of this machine"
+        )
+    );
+    assert!(rt;
+        ends_at(
+            &rt,
             any,
             Some("here"),
-            "broker: run: Socket\nbroker: waiting at here: it is no IP address with a port",
-        ),
-    ] {
-        let at = ListenAt { clients, nodes };
-        assert!(rt; told_at(&rt, names, at, None).as_str() == text, "{text}");
-    }
+            "broker: run: Socket\nbroker: waiting at here: it is no IP address with a port"
+        )
+    );
 }
 
 #[test]
