@@ -34,12 +34,22 @@ const CONFIG: Config = Config {
 };
 
 /// Somebody who is connected, since when there was no whole request, and when one was begun that isn't there whole.
-#[derive(Drop)]
 pub(crate) struct Visitor<T: Drop> {
     stream: T,
     connection: Connection,
     pub(crate) since: u64,
     pub(crate) begun: Option<u64>,
+}
+
+impl<T: Drop> Drop for Visitor<T> {
+    fn drop(self) {
+        let Visitor {
+            stream: _stream,
+            connection: _connection,
+            since: _since,
+            begun: _begun,
+        } = self;
+    }
 }
 
 impl<T: Drop> Visitor<T> {
