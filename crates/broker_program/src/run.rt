@@ -1,5 +1,9 @@
 //! What each command runs.
 
+ghost use Rattle.std.specs.Prelude.{◌≡◌, is_some, option_map, IfOk, IfSome};
+ghost use Rattle.cli_files.specs.Users.{AreAsked, AreRead};
+ghost use Rattle.door_users.specs.Files.{rights_of};
+
 use crate::limits::bounds_of;
 use broker_command::{AskedUsers, Task};
 use broker_sockets::RealSockets;
@@ -101,14 +105,25 @@ fn status_at<'a>(address: &'a Option<String>, hosts: &'a Option<String>) -> Opti
     Some(StatusAt { address, hosts })
 }
 
+/// The path that a command line gives, if it gives one.
+fn path_in(path: &Option<String>) -> Option<&str>
+    ensures { option_map (λ p. p.now) result ≡ option_map (λ p. p.bytes.items) path.now }
+{
+    match path {
+        Some(path) => Some(path.as_str()),
+        None => None,
+    }
+}
+
 /// Who may come, by the files that a command line names.
-fn access_of(rt: &HostRuntime, users: &AskedUsers) -> Result<Option<FileAccess>, Ending> {
-    let access = read_access(
-        rt,
-        users.users.as_ref().map(|path| path.as_str()),
-        users.permissions.as_ref().map(|path| path.as_str()),
-        users.anonymous,
-    )?;
+fn access_of(rt: &HostRuntime, users: &AskedUsers) -> Result<Option<FileAccess>, Ending>
+    ensures asked { IfOk result (λ access. AreAsked (option_map (λ p. p.bytes.items) users.now.users) (option_map (λ p. p.bytes.items) users.now.permissions)
+        users.now.anonymous (is_some access)) }
+    ensures rights { IfOk result (λ access. IfSome access (λ a. AreRead (option_map (λ p. p.bytes.items) users.now.permissions) users.now.anonymous (rights_of a))) }
+{
+    let named = path_in(&users.users);
+    let permissions = path_in(&users.permissions);
+    let access = read_access(rt, named, permissions, users.anonymous)?;
     Ok(access)
 }
 
