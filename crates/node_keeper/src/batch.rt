@@ -12,7 +12,7 @@ ghost use Rattle.row_store.specs.Rows.{Content, after_all};
 use crate::{Keeper, KeeperFault};
 use broker_node::{Event, Node};
 use node_work::{Outcome, Output};
-use row_store::{Change, RowFault, RowStore, last_of_each};
+use row_store::{Change, RowFault, RowStore};
 use std::alloc::{AllocError, Global};
 use std::mem;
 
@@ -69,8 +69,8 @@ fn take(
     }
 }
 
-/// Makes the changes, all or none, by one call of the store of rows, which is given the last one of each row.
-fn write<R: RowStore>(alloc: Global, rows: &mut R, changes: Vec<Change>) -> Result<(), RowFault>
+/// Makes the changes, all or none, by one call of the store of rows.
+fn write<R: RowStore>(rows: &mut R, changes: Vec<Change>) -> Result<(), RowFault>
     ensures nothing { changes.items ≡ [] → (result ≡ Ok tt) × (rows.new ≡ rows.old) }
     ensures ok { R.is_clean rows.new → R.is_open rows.old → OnOk result (R.is_open rows.new × (R.content rows.new ≡ after_all (R.content rows.old) changes.items)) }
     ensures err { R.is_clean rows.new → R.is_open rows.new → OnErr result (R.content rows.new ≡ R.content rows.old) }
@@ -81,10 +81,7 @@ fn write<R: RowStore>(alloc: Global, rows: &mut R, changes: Vec<Change>) -> Resu
     ensures bad { result ≢ Err RowFault.BadRow }
     ensures was_clean { R.is_clean rows.new → R.is_clean rows.old }
 {
-    let Ok(lasts) = last_of_each(alloc, changes) else {
-        return Err(RowFault::NoMemory);
-    };
-    rows.apply(&lasts)
+    rows.apply(&changes)
 }
 
 impl<R: RowStore> BatchKeeper<R> {
@@ -128,7 +125,7 @@ impl<R: RowStore> BatchKeeper<R> {
         taken
     }
 
-    /// Makes the changes that wait, all or none, by one call of the store of rows, which is given the last one of each row; where
+    /// Makes the changes that wait, all or none, by one call of the store of rows, which is given them as they were decided; where
     /// none wait it asks the store for nothing. Where they can't be made the node has stopped. Nothing waits afterwards.
     pub fn commit(&mut self) -> Result<(), KeeperFault>
         ensures place { (node_in self.new).place ≡ (node_in self.old).place }
@@ -151,7 +148,7 @@ impl<R: RowStore> BatchKeeper<R> {
         ensures was_clean { R.is_clean (rows_in self.new) → R.is_clean (rows_in self.old) }
     {
         let waiting = mem::replace(&mut self.waiting, Vec::new(self.alloc));
-        match write(self.alloc, &mut self.rows, waiting) {
+        match write(&mut self.rows, waiting) {
             Ok(()) => Ok(()),
             Err(fault) => {
                 self.node.stop();

@@ -10,3 +10,4 @@ pub mod CallLaws
 pub mod ReadingLaws
 pub mod RunLaws
 pub mod TopsLaws
+pub mod RepeatLaws

@@ -4,5 +4,6 @@ pub mod Items
 pub mod Journal
 pub mod Reading
 pub mod Tops
+pub mod Repeats
 pub mod Calls
 pub mod Laws

@@ -8,6 +8,7 @@ ghost use Rattle.row_journal.specs.Journal.{AreOthers, NamesWithin, after_pairs,
 ghost use Rattle.row_journal.specs.Spelling as spec;
 ghost use Rattle.row_journal.specs.Tops.{Allows, Covers, Grows, IsKept};
 
+use crate::repeats::without_repeats;
 use crate::spelled::{JOURNAL, spell_turn, whole_len};
 use crate::tops::{Tops, needed, take_changes};
 use row_store::{Change, Row, last_of_each};
@@ -68,7 +69,7 @@ pub(crate) fn total_len(changes: &[Change]) -> usize {
     len
 }
 
-fn copy_of(alloc: Global, change: &Change) -> Result<Change, AllocError>
+pub(crate) fn copy_of(alloc: Global, change: &Change) -> Result<Change, AllocError>
     ensures { IfOk result (λ copy. pair_of copy ≡ pair_of change.now) }
 {
     match change {
@@ -198,8 +199,8 @@ fn lasts_of(alloc: Global, tops: &Tops, noted: &[Change]) -> Result<Vec<Change>,
     ensures content { IfOk result (λ lasts. (c : Content) → Covers tops.now.entries c → after_all c lasts.items ≡ after_pairs c (map pair_of noted.now)) }
     ensures named { IfOk result (λ lasts. NamesWithin (map pair_of lasts.items) (map pair_of noted.now)) }
 {
-    let copies = copies_of(alloc, noted)?;
-    needed(alloc, tops, last_of_each(alloc, copies)?)
+    let left = without_repeats(alloc, tops, noted)?;
+    needed(alloc, tops, last_of_each(alloc, left)?)
 }
 
 impl Journal {

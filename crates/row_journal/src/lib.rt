@@ -7,6 +7,7 @@ mod items;
 mod journal;
 pub mod laws;
 mod reading;
+mod repeats;
 mod spelled;
 mod store;
 mod tops;

@@ -105,7 +105,7 @@ pub(crate) fn take_changes(
 }
 
 /// Whether the change removes a row that isn't there.
-fn is_idle(alloc: Global, tops: &Tops, change: &Change) -> Result<bool, AllocError>
+pub(crate) fn is_idle(alloc: Global, tops: &Tops, change: &Change) -> Result<bool, AllocError>
     ensures { IfOk result (λ idle. IsTrue idle → IsIdle tops.now.entries change.now) }
 {
     match change {
