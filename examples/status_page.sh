@@ -1,13 +1,13 @@
 #!/usr/bin/env bash
 # Runs the three nodes of examples/cluster.toml with empty databases, each with its status told at a port of its own, and takes pictures of the
-# page of n0, as a browser shows it: 390 and 1,280 pixels wide, with scripts and without. It has clients, and two peers: n1, which has all, and
-# n2, which was killed and lacks two operations. Prints the paths of the pictures, and exits 1 where one isn't there, has another width or is blank.
+# page of n0 and of its page of the cluster, as a browser shows them: 390 and 1,280 pixels wide, with scripts and without. It has clients, and two
+# peers: n1, which has all, and n2, which was killed and lacks two operations. Prints the paths of the pictures, and exits 1 where one isn't there, has another width or is blank.
 #
 #   examples/status_page.sh FOLDER             runs the program that ./build has built
 #   examples/status_page.sh FOLDER PROGRAM..   runs these words in its place, with `run CONFIG NODE DATABASE --status ADDRESS`
 #                                              behind them
 #
-# The pictures are FOLDER/390.png, 390_without_scripts.png, 1280.png and 1280_without_scripts.png. It needs curl, mosquitto's clients and
+# The pictures are FOLDER/390.png, 390_without_scripts.png, 1280.png and 1280_without_scripts.png, and the same with cluster_ before. It needs curl, mosquitto's clients and
 # Chromium: apt-get install curl mosquitto-clients chromium. The ports 1883 to 1885, 2883 to 2885 and 8083 to 8085 must be free.
 set -eu
 
@@ -48,11 +48,11 @@ width() {
     od -An -t u4 --endian=big -j 16 -N 4 "$1" | tr -d ' '
 }
 
-# Takes the picture $3 of n0's page, so many pixels wide, by a profile, once the page's script would have asked for it twice.
+# Takes the picture $3 of what n0 shows at the path $4, so many pixels wide, by a profile, once the page's script would have asked for it twice.
 take() {
     local wide=$1 profile=$2 picture=$folder/$3
     rm -f "$picture"
-    timeout 120 "${browser[@]}" --user-data-dir="$work/$profile" --window-size="$wide,$height" --screenshot="$picture" "http://$(place 0)/" \
+    timeout 120 "${browser[@]}" --user-data-dir="$work/$profile" --window-size="$wide,$height" --screenshot="$picture" "http://$(place 0)/$4" \
         > "$work/$3.log" 2>&1 || true
     if [ ! -f "$picture" ]; then
         cat "$work/$3.log" >&2
@@ -82,7 +82,9 @@ await_gates 503 0
 
 forbid_scripts silent
 for wide in 390 1280; do
-    take "$wide" plain "$wide.png"
-    take "$wide" silent "${wide}_without_scripts.png"
+    take "$wide" plain "$wide.png" ''
+    take "$wide" silent "${wide}_without_scripts.png" ''
+    take "$wide" plain "cluster_$wide.png" cluster
+    take "$wide" silent "cluster_${wide}_without_scripts.png" cluster
 done
 exit "$failed"

@@ -1,11 +1,16 @@
 -- Frames with the messages of a lane.
-use Rattle.std.proofs.Common.{◌≡◌, inl, inr, ℕ, zero, suc, ◌+◌, ◌<◌, ◌≤◌, min, List, [], ◌∷◌, ◌++◌, length, take, drop, get_or, add-one, refl, sym, ap, ◌∙◌, arith}
+use Rattle.std.proofs.Common.{◌≡◌, ◌≢◌, inl, inr, ℕ, zero, suc, ◌+◌, ◌-◌, ◌<◌, ◌≤◌, min, Bool, true, false, List, [], ◌∷◌, ◌++◌, length, take, drop, drop-cons, get_or, add-one, if◌then◌else◌, refl, sym, ap, ◌∙◌, arith}
+use Rattle.std.specs.Prelude.{nat_eq}
+use Rattle.std.proofs.Common.{length-drop}
+use Rattle.std.proofs.Math.Seq.{drop-nil}
 use Rattle.std.proofs.lemmas.Bool.{cases_lt}
+use Rattle.std.proofs.lemmas.Bool.Decides.{nat_tests}
 use Rattle.std.proofs.lemmas.List.{take_all}
 use Rattle.bridge_frames.specs.declared.body.FrameBody.TheVariants as bodies
 use Rattle.bridge_frames.specs.declared.forward.Forward.{Forward}
 use Rattle.bridge_frames.specs.declared.frame.BridgeFrame.{BridgeFrame}
 use Rattle.bridge_deltas.specs.Lane.{frames_from}
+use Rattle.bridge_deltas.specs.More.{first_fitting, fitting, frames_after}
 
 abbrev frame : ℕ → ℕ → ℕ → Forward → BridgeFrame
 frame from to n m = record { from = from; to = to; body = bodies.Forward n m }
@@ -40,3 +45,87 @@ first_taken n count xs is = elim (cases_lt n (length xs)) [
   | inl more ↦ (let same : count ≡ n = omega (arith, is, more) in ap (λ k. take k xs) same)
   | inr few ↦ (let over : length xs ≤ count = omega (arith, is, few) in take_all count xs over ∙ sym (take_all n xs (omega (arith, few))))
 ]
+
+-- ---- as many as go at once
+
+none_fit : (most bytes : ℕ) (ms : List Forward) → bytes ≡ 0 → fitting most bytes ms ≡ 0
+none_fit zero bytes ms none = refl
+none_fit (suc most) bytes [] none = refl
+none_fit (suc most) bytes (m ∷ ms) none = ap (λ n. if nat_eq n 0 then 0 else suc (fitting most (n - length m.message.payload) ms)) none
+
+fit_none : (most bytes : ℕ) → fitting most bytes [] ≡ 0
+fit_none zero bytes = refl
+fit_none (suc most) bytes = refl
+
+one_fits : (most bytes : ℕ) (m : Forward) (ms : List Forward) → nat_eq bytes 0 ≡ false → fitting (suc most) bytes (m ∷ ms) ≡ suc (fitting most (bytes - length m.message.payload) ms)
+one_fits most bytes m ms some = ap (λ b. if b then 0 else suc (fitting most (bytes - length m.message.payload) ms)) some
+
+pub fitting_below : (most bytes : ℕ) (ms : List Forward) → fitting most bytes ms ≤ length ms
+fitting_below zero bytes ms = omega arith
+fitting_below (suc most) bytes [] = omega arith
+fitting_below (suc most) bytes (m ∷ ms) = by (nat_eq bytes 0) (fitting_below most (bytes - length m.message.payload) ms)
+  where
+    by : (b : Bool) → fitting most (bytes - length m.message.payload) ms ≤ length ms → (if b then 0 else suc (fitting most (bytes - length m.message.payload) ms)) ≤ suc (length ms)
+    by true below = omega arith
+    by false below = omega (arith, below)
+
+pub no_more_fit : (most bytes total i : ℕ) (left : List Forward) → bytes ≡ 0 → total ≡ i + fitting most bytes left → i ≡ total
+no_more_fit most bytes total i left none so = let end : i + 0 ≡ i = omega arith in sym (so ∙ ap (λ n. i + n) (none_fit most bytes left none) ∙ end)
+
+pub all_fit : (most bytes total place i : ℕ) (all : List Forward) → place ≤ length all → i ≡ min (length all - place) most → total ≡ i + fitting (most - i) bytes (drop (place + i) all) → i ≡ total
+all_fit most bytes total place i all there is so = elim (cases_lt i most) [
+  | inl few ↦ (
+      let past : length all ≤ place + i = omega (arith, is, few, there) in
+      let end : i + 0 ≡ i = omega arith in
+      sym (so ∙ ap (λ ms. i + fitting (most - i) bytes ms) (past_all (place + i) all past) ∙ ap (λ n. i + n) (fit_none (most - i) bytes) ∙ end))
+  | inr full ↦ (
+      let none : most - i ≡ 0 = omega (arith, full) in
+      let end : i + 0 ≡ i = omega arith in
+      sym (so ∙ ap (λ n. i + fitting n bytes (drop (place + i) all)) none ∙ end))
+]
+  where
+    past_all : (n : ℕ) (ms : List Forward) → length ms ≤ n → drop n ms ≡ []
+    past_all zero [] few = refl
+    past_all zero (m ∷ ms) few = absurd (omega (arith, few))
+    past_all (suc n) [] few = refl
+    past_all (suc n) (m ∷ ms) few = past_all n ms (omega (arith, few))
+
+pub begins_fit : (most bytes place : ℕ) (all : List Forward) → fitting most bytes (drop place all) ≡ 0 + fitting (most - 0) bytes (drop (place + 0) all)
+begins_fit most bytes place all =
+    let most' : most ≡ most - 0 = omega arith in
+    let place' : place ≡ place + 0 = omega arith in
+    (λ i. fitting (most' i) bytes (drop (place' i) all)) ∙ from_none (fitting (most - 0) bytes (drop (place + 0) all))
+  where
+    from_none : (n : ℕ) → n ≡ 0 + n
+    from_none n = omega arith
+
+some_bytes : (n : ℕ) → n ≢ 0 → nat_eq n 0 ≡ false
+some_bytes n some = grind (arith, some, nat_tests)
+
+pub next_fits : (most bytes total place i : ℕ) (all : List Forward) (here : Forward) → i < most → place + i < length all → here ≡ get_or all (place + i) here → bytes ≢ 0 → total ≡ i + fitting (most - i) bytes (drop (place + i) all)
+    → total ≡ (i + 1) + fitting (most - (i + 1)) (bytes - length here.message.payload) (drop (place + (i + 1)) all)
+next_fits most bytes total place i all here few inside is some so =
+    let rest = drop (suc (place + i)) all in
+    let one : most - i ≡ suc (most - (i + 1)) = omega (arith, few) in
+    let left : drop (place + i) all ≡ here ∷ rest = drop-cons all (place + i) here inside ∙ ap (λ (m : Forward). m ∷ rest) (sym is) in
+    let place' : suc (place + i) ≡ place + (i + 1) = omega arith in
+    so ∙ (λ j. i + fitting (one j) bytes (left j)) ∙ ap (λ n. i + n) (one_fits (most - (i + 1)) bytes here rest (some_bytes bytes some))
+    ∙ counted i (fitting (most - (i + 1)) (bytes - length here.message.payload) rest) ∙ ap (λ n. (i + 1) + fitting (most - (i + 1)) (bytes - length here.message.payload) (drop n all)) place'
+  where
+    counted : (i n : ℕ) → i + suc n ≡ (i + 1) + n
+    counted i n = omega arith
+
+-- ---- those after a number
+
+drop_twice : (a b : ℕ) (ms : List Forward) → drop (a + b) ms ≡ drop b (drop a ms)
+drop_twice zero b ms = let e : 0 + b ≡ b = omega arith in ap (λ n. drop n ms) e
+drop_twice (suc a) b [] = drop-nil (suc a + b) ∙ sym (drop-nil b)
+drop_twice (suc a) b (m ∷ ms) = let e : suc a + b ≡ suc (a + b) = omega arith in ap (λ n. drop n (m ∷ ms)) e ∙ drop_twice a b ms
+
+pub later_frames : (from to after base gone passed place last count took : ℕ) (all : List Forward) (out : List BridgeFrame) → gone ≤ length all → passed ≡ min (after - (base + gone)) (length all - gone) → place ≡ gone + passed → last ≡ base + gone + passed
+    → count ≡ fitting 4096 4194304 (drop place all) → out ≡ frames_from from to (suc last) (take count (drop place all)) → out ≡ frames_after from to after (record { gone = base + gone; waiting = drop gone all; took = took })
+later_frames from to after base gone passed place last count took all out inside is at number many frames =
+    let left : drop place all ≡ drop passed (drop gone all) = ap (λ n. drop n all) at ∙ drop_twice gone passed all in
+    let up : passed ≡ min (after - (base + gone)) (length (drop gone all)) = is ∙ ap (λ n. min (after - (base + gone)) n) (sym (length-drop gone all)) in
+    frames ∙ ap (λ n. frames_from from to (suc last) (take n (drop place all))) many ∙ (λ i. frames_from from to (suc (number i)) (first_fitting (left i)))
+    ∙ ap (λ n. frames_from from to (suc (base + gone + n)) (first_fitting (drop n (drop gone all)))) up

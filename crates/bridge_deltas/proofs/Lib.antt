@@ -1,4 +1,5 @@
 pub mod Confirming
+pub mod Following
 pub mod Framing
 pub mod Mapping
 pub mod Shipping

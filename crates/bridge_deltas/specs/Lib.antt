@@ -4,4 +4,5 @@ pub mod Buffer
 pub mod Shipped
 pub mod Confirmed
 pub mod Links
+pub mod More
 pub mod Laws

@@ -1,5 +1,5 @@
 //! The lanes to and from one other node.
-ghost use Rattle.std.specs.Prelude.{[], ◌≡◌, ◌<◌, ◌≤◌, ◌+◌, ◌++◌, ◌^◌, ◌↔◌, suc, nat_eq, if◌then◌else◌, take, drop, length, map, OnOk, OnErr, IfOk, IsOk, IsTrue};
+ghost use Rattle.std.specs.Prelude.{[], ◌≡◌, ◌<◌, ◌≤◌, ◌+◌, ◌++◌, ◌^◌, ◌↔◌, suc, max, nat_eq, if◌then◌else◌, take, drop, length, map, OnOk, OnErr, IfOk, IsOk, IsTrue};
 ghost use Rattle.row_store.specs.Rows.{entry_of};
 ghost use Rattle.bridge_lanes.specs.ChangeSteps.{IsSoundLane, message_changes, numbers_changes};
 ghost use Rattle.bridge_lanes.specs.Changes.{left_of, new_kept, told_now};
@@ -7,6 +7,7 @@ ghost use Rattle.bridge_lanes.specs.Reading.{IsLane, lane_in};
 ghost use Rattle.bridge_lanes.specs.Rows.{numbers_of, waiting_of};
 ghost use Rattle.bridge_lanes.specs.Lanes.{new_lane, with_got, with_took};
 ghost use Rattle.bridge_deltas.specs.Lane.{after_offer, first_frames, frames_from, next_number, offer_of, told_lane};
+ghost use Rattle.bridge_deltas.specs.More.{fitting, frames_after};
 
 use crate::offer::Offer;
 use bridge_frames::{BridgeFrame, Forward, FrameBody, LaneNumber};
@@ -20,8 +21,13 @@ use std::alloc::Global;
 use std::collections::VecDeque;
 use std::marker::Model;
 
-/// As many messages as are sent at once.
+/// As many messages as are sent where it isn't known what was sent.
 const FIRST: usize = 64;
+
+/// As many messages as are sent at once at most, and as many bytes of payload after which no more are.
+const MOST: usize = 4096;
+
+const MOST_BYTES: usize = 4_194_304;
 
 /// Numbered messages to the other node, and the number of the last one that was taken of its messages.
 ///
@@ -60,7 +66,25 @@ impl Model for Lane {
         × (l.told_took ≤ l.took) × (l.took < 2 ^ 62) × AllByRecursion forward.Fits l.messages.items };
 }
 
-// Frames with the first messages from a place on, under the numbers after those that are gone.
+// How many messages from a place on are sent at once.
+fn count_fitting(messages: &VecDeque<Forward>, place: usize) -> usize
+    requires { place ≤ length messages.now.items }
+    ensures count { result ≡ fitting 4096 4194304 (drop place messages.now.items) }
+    ensures there { place + result ≤ length messages.now.items }
+{
+    let count = (messages.len() - place).min(MOST);
+    let mut bytes = MOST_BYTES;
+    for i in 0..count {
+        if bytes == 0 {
+            return i;
+        }
+        let message = messages[place + i].message.message();
+        bytes = bytes.saturating_sub(message.payload.as_slice().len());
+    }
+    count
+}
+
+// Frames with so many messages from a place on, under the numbers after those that are gone.
 fn frames_of(
     alloc: Global,
     from: u16,
@@ -68,14 +92,14 @@ fn frames_of(
     gone: u64,
     messages: &VecDeque<Forward>,
     place: usize,
+    count: usize,
 ) -> Result<Vec<BridgeFrame>, NoMemory>
-    requires there { place ≤ length messages.now.items }
+    requires there { place + count ≤ length messages.now.items }
     requires numbers { gone + length messages.now.items < 2 ^ 62 + place }
     ensures frames { IfOk result (λ out. out.items
-        ≡ frames_from from to (suc gone) (take 64 (drop place messages.now.items))) }
-    ensures memory { OnErr result (place < length messages.now.items) }
+        ≡ frames_from from to (suc gone) (take count (drop place messages.now.items))) }
+    ensures memory { OnErr result (0 < count) }
 {
-    let count = (messages.len() - place).min(FIRST);
     let mut out = Vec::new(alloc);
     for i in 0..count {
         let message = messages[place + i].copy(alloc)?;
@@ -147,7 +171,29 @@ impl Lane {
         ensures memory { OnErr result (0 < length self.now.lane.waiting) }
     {
         let gone = self.base + self.gone as u64;
-        let out = frames_of(alloc, from, to, gone, &self.messages, self.gone)?;
+        let count = (self.messages.len() - self.gone).min(FIRST);
+        let out = frames_of(alloc, from, to, gone, &self.messages, self.gone, count)?;
+        Ok(out)
+    }
+
+    /// Frames with the first messages that wait under numbers above one. Only these take memory.
+    pub fn first_after(
+        &self,
+        alloc: Global,
+        from: u16,
+        to: u16,
+        after: u64,
+    ) -> Result<Vec<BridgeFrame>, NoMemory>
+        ensures frames { IfOk result (λ out. out.items ≡ frames_after from to after self.now.lane) }
+        ensures memory { OnErr result (max self.now.lane.gone after < self.now.lane.gone + length self.now.lane.waiting) }
+    {
+        let gone = self.base + self.gone as u64;
+        let waiting = self.messages.len() - self.gone;
+        let passed = after.saturating_sub(gone).min(waiting as u64) as usize;
+        let place = self.gone + passed;
+        let count = count_fitting(&self.messages, place);
+        let last = gone + passed as u64;
+        let out = frames_of(alloc, from, to, last, &self.messages, place, count)?;
         Ok(out)
     }
 

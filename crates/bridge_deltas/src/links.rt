@@ -1,5 +1,5 @@
 //! What a node keeps for the other nodes of its cluster.
-ghost use Rattle.std.specs.Prelude.{[], ◌≡◌, ◌⊎◌, ◌<◌, ◌-◌, ◌++◌, ◌↔◌, suc, length, nat_eq, if◌then◌else◌, slice_set, map, replicate, IfOk, IfErr, IfSome, IsErrOf, IsNone, IsOk, IsTrue, OnErr, OnOk};
+ghost use Rattle.std.specs.Prelude.{[], ◌≡◌, ◌⊎◌, ◌<◌, ◌+◌, ◌-◌, ◌++◌, ◌↔◌, suc, max, length, nat_eq, if◌then◌else◌, slice_set, map, replicate, IfOk, IfErr, IfSome, IsErrOf, IsNone, IsOk, IsTrue, OnErr, OnOk};
 ghost use Rattle.std.specs.FinSet as set;
 ghost use Rattle.std.specs.List.{AllByRecursion};
 ghost use Rattle.causal_context.specs.SetLattice.{IsSubset};
@@ -14,6 +14,7 @@ ghost use Rattle.bridge_lanes.specs.Changes.{AreLaneChanges, left_of, new_kept, 
 ghost use Rattle.bridge_lanes.specs.Reading.{AreLanes, AreLanesOf, IsLane, lane_in};
 ghost use Rattle.bridge_lanes.specs.Rows.{each, numbers_of, rows_of, waiting_of};
 ghost use Rattle.bridge_deltas.specs.Lane.{after_offer, first_frames, next_number, offer_of, told_lane};
+ghost use Rattle.bridge_deltas.specs.More.{frames_after};
 ghost use Rattle.bridge_deltas.specs.Links.{all_told, belief_of, kept_of, new_links, opened_links, with_kept};
 ghost use Rattle.bridge_deltas.specs.Shipped.{IsShipped};
 
@@ -330,6 +331,25 @@ impl Links {
     {
         match self.lanes.get(peer as usize) {
             Some(lane) => lane.first(self.alloc, from, peer),
+            None => Ok(Vec::new(self.alloc)),
+        }
+    }
+
+    /// Frames with the messages that wait for the peer under numbers above one, with this node as their sender: at most 4,096, each as long as
+    /// fewer than 4,194,304 bytes of payload go before it. None for a node that the cluster lacks. Only these take memory.
+    pub fn waiting_after(
+        &self,
+        from: u16,
+        peer: u16,
+        after: u64,
+    ) -> Result<Vec<BridgeFrame>, NoMemory>
+        ensures frames { IfOk result (λ out. out.items
+            ≡ frames_after from peer after (kept_of self.now peer).lane) }
+        ensures memory { let l = (kept_of self.now peer).lane in
+            OnErr result (max l.gone after < l.gone + length l.waiting) }
+    {
+        match self.lanes.get(peer as usize) {
+            Some(lane) => lane.first_after(self.alloc, from, peer, after),
             None => Ok(Vec::new(self.alloc)),
         }
     }

@@ -3,7 +3,7 @@ use Rattle.std.specs.Prelude.{◌≡◌, ◌+◌, ◌^◌, ◌-◌, ◌&&◌, �
 use Rattle.std.specs.BTreeMap.{IsUnchanged, get}
 use Rattle.std.specs.Ordering.{nat_cmp}
 use Rattle.broker_sockets.specs.declared.network.Answer.{Answer}
-use Rattle.broker_sockets.specs.declared.network.Answer.TheVariants.{Later}
+use Rattle.broker_sockets.specs.declared.network.Answer.TheVariants.{Later, Bytes, Gone}
 use Rattle.broker_sockets.specs.declared.ready.Ready.{Ready}
 use Rattle.broker_holds.specs.declared.sockets.HoldingSockets.{HoldingSockets}
 use Rattle.broker_holds.specs.declared.strain.Strained.{Strained}
@@ -42,6 +42,12 @@ module _ {S T : Type 0} where
   -- a stream is read, or answers that it would have to wait since its client is held back
   abbrev pub IsReadOrHeld : (S → T → Answer → List ℕ → S → T → Type 0) → HoldingSockets S → HeldStream T → Answer → List ℕ → HoldingSockets S → HeldStream T → Type 0
   IsReadOrHeld reads n t answer bytes n' t' = ((answer ≡ Later) × IsHeldBack n t n' t') ⊎ IsPassedOn reads n t answer bytes n' t'
+
+-- a link on which bytes are carried stands, and one that is gone doesn't
+abbrev pub link_told : Answer → Option Bool
+link_told Later = None
+link_told (Bytes count) = Some true
+link_told Gone = Some false
 
 -- whether who was held back until a moment is told as ready: where nothing too much waits any more, and else once the moment has come
 abbrev pub is_over : Option Strained → ℕ → Bool

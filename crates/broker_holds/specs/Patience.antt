@@ -1,5 +1,5 @@
 -- How long a client may be held back.
-use Rattle.std.specs.Prelude.{◌≡◌, ◌*◌, ◌≤◌, ◌<◌, ◌||◌, ℕ, eqb, leb, if◌then◌else◌}
+use Rattle.std.specs.Prelude.{◌*◌, ◌≤◌, ◌<◌, ◌||◌, ℕ, eqb, leb, if◌then◌else◌}
 
 -- in milliseconds, with a Keep Alive in seconds: half of it, and a minute where there is none or it is two minutes or more
 abbrev pub patience : ℕ → ℕ

@@ -3,7 +3,7 @@
 ghost use Rattle.std.specs.Prelude.{◌≡◌, ◌==◌, ℕ, length, true, false, IfOk};
 ghost use Rattle.std.specs.BTreeMap.{IsUnchanged, get};
 ghost use Rattle.std.specs.Ordering.{nat_cmp};
-ghost use Rattle.broker_holds.specs.Holding.{due_of, forgotten, forgotten_one, held_by, is_over, latest};
+ghost use Rattle.broker_holds.specs.Holding.{due_of, forgotten, forgotten_one, held_by, is_over, latest, link_told};
 ghost use Rattle.broker_sockets.specs.Answers.{CarriesSome, IsWithin, carried};
 
 use crate::strain::{Strain, Strained};
@@ -20,12 +20,25 @@ use std::rc::Rc;
 ///
 /// A client is held back only from where a PUBLISH of it came while too much waited, and for half its Keep Alive at most: so its packets come in time.
 /// Meanwhile, and for a second after that, little is read at once of each client.
+///
+/// A link that was dialled stands from when bytes are carried on it until it fails, or its peer is dialled again.
 #[derive(Drop)]
 pub struct HoldingSockets<S> {
     sockets: S,
     strain: Rc<Strain>,
     /// Who was held back since he was told as ready last, and until when.
     held: BTreeMap<usize, u64>,
+}
+
+/// Whether a link stands, where what a call on it answered tells that.
+fn link_told(answer: Answer) -> Option<bool>
+    ensures { result ≡ link_told answer }
+{
+    match answer {
+        Answer::Later => None,
+        Answer::Bytes(_) => Some(true),
+        Answer::Gone => Some(false),
+    }
 }
 
 /// Whether who was held back until a moment is told as ready.
@@ -78,6 +91,15 @@ impl<S> HoldingSockets<S> {
         match self.held.insert(client, until) {
             Ok(_) => true,
             Err(_) => false,
+        }
+    }
+
+    /// Tells whether a link to another node stands, where what a call on its stream answered tells that.
+    fn tell_link<T>(&self, stream: &HeldStream<T>, answer: Answer) {
+        if let Some(peer) = stream.peer() {
+            if let Some(stands) = link_told(answer) {
+                self.strain.tell_link(peer, stands);
+            }
         }
     }
 
@@ -188,7 +210,9 @@ impl<S: Sockets> Sockets for HoldingSockets<S> {
 
     fn read(&mut self, stream: &mut HeldStream<S::Stream>, buffer: &mut [u8]) -> Answer {
         let Some(client) = stream.client() else {
-            return self.sockets.read(&mut stream.stream, buffer);
+            let answer = self.sockets.read(&mut stream.stream, buffer);
+            self.tell_link(stream, answer);
+            return answer;
         };
         let strained = self.strain.get();
         if self.holds(client, stream, &strained) {
@@ -199,7 +223,9 @@ impl<S: Sockets> Sockets for HoldingSockets<S> {
     }
 
     fn write(&mut self, stream: &mut HeldStream<S::Stream>, bytes: &[u8]) -> Answer {
-        self.sockets.write(&mut stream.stream, bytes)
+        let answer = self.sockets.write(&mut stream.stream, bytes);
+        self.tell_link(stream, answer);
+        answer
     }
 }
 
@@ -212,8 +238,9 @@ impl<S: Readiness> Readiness for HoldingSockets<S> {
     ghost finds = { AreFound S.finds };
 
     fn watch(&mut self, stream: &mut HeldStream<S::Stream>, name: Watched) -> bool {
-        if let Watched::Client(client) = name {
-            stream.name(client);
+        stream.name(name);
+        if let Watched::Peer(peer) = name {
+            self.strain.tell_link(peer, false);
         }
         self.sockets.watch(&mut stream.stream, name)
     }

@@ -1,5 +1,6 @@
-//! Whether too much waits for other nodes.
+//! Whether too much waits for other nodes, and which links to them stand.
 
+use std::alloc::{AllocError, Global};
 use std::cell::Cell;
 
 /// For so many milliseconds after too much has waited, little is read at once.
@@ -14,7 +15,7 @@ pub struct Strained {
     pub at: u64,
 }
 
-/// Whether too much waits for another node, as a node tells the sockets before it.
+/// Whether too much waits for another node, as a node tells the sockets before it, and which links stand, as these tell the node.
 #[derive(Drop)]
 pub struct Strain {
     told: Cell<Option<Strained>>,
@@ -22,21 +23,33 @@ pub struct Strain {
     now: Cell<u64>,
     /// When it is calm, if nothing too much waits till then.
     calm: Cell<u64>,
+    /// Whether the link to each other node stands, by its number.
+    links: Vec<Cell<bool>>,
 }
 
 impl Strain {
-    /// Nothing is told yet.
-    pub fn new() -> Strain {
-        Strain {
+    /// Nothing is told yet, and no link stands, in a cluster of so many nodes.
+    pub fn new(alloc: Global, nodes: u16) -> Result<Strain, AllocError> {
+        let mut links = Vec::new(alloc);
+        for _ in 0..nodes {
+            links.push(Cell::new(false))?;
+        }
+        Ok(Strain {
             told: Cell::new(None),
             now: Cell::new(0),
             calm: Cell::new(0),
-        }
+            links,
+        })
     }
 
     /// What was told last.
     pub fn get(&self) -> Option<Strained> {
         self.told.get()
+    }
+
+    /// The moment at which it was told last.
+    pub fn now(&self) -> u64 {
+        self.now.get()
     }
 
     /// Whether nothing too much has waited for a second.
@@ -57,5 +70,20 @@ impl Strain {
         };
         self.told.set(Some(Strained { since, at }));
         self.calm.set(at.saturating_add(CALM));
+    }
+
+    /// Whether the link to a node stands: bytes were carried on it, and it hasn't failed since.
+    pub fn stands(&self, node: u16) -> bool {
+        match self.links.get(usize::from(node)) {
+            Some(link) => link.get(),
+            None => false,
+        }
+    }
+
+    /// Tells whether the link to a node stands.
+    pub(crate) fn tell_link(&self, node: usize, stands: bool) {
+        if let Some(link) = self.links.get(node) {
+            link.set(stands);
+        }
     }
 }

@@ -5,6 +5,7 @@ ghost use Rattle.broker_holds.specs.Holding.{held_by, held_until};
 use crate::packets::Packets;
 use crate::patience::{SHORTEST, patience_in};
 use crate::strain::Strained;
+use broker_sockets::Watched;
 use std::cell::Cell;
 
 /// The fewest bytes that are read at once while too much waits.
@@ -14,8 +15,8 @@ const LEAST: usize = 512;
 #[derive(Drop)]
 pub struct HeldStream<T> {
     pub(crate) stream: T,
-    /// The number of the client's connection, once the stream is watched as one.
-    client: Cell<Option<usize>>,
+    /// What it is watched as, once it is.
+    name: Cell<Option<Watched>>,
     packets: Packets,
     /// Whether bytes have come.
     begun: bool,
@@ -32,7 +33,7 @@ impl<T> HeldStream<T> {
     {
         HeldStream {
             stream,
-            client: Cell::new(None),
+            name: Cell::new(None),
             packets: Packets::new(),
             begun: false,
             patience: SHORTEST,
@@ -42,12 +43,23 @@ impl<T> HeldStream<T> {
 
     /// The number of the client's connection, once it is watched as one.
     pub(crate) fn client(&self) -> Option<usize> {
-        self.client.get()
+        match self.name.get() {
+            Some(Watched::Client(client)) => Some(client),
+            _ => None,
+        }
     }
 
-    /// It is watched as that of a client by this number.
-    pub(crate) fn name(&self, client: usize) {
-        self.client.set(Some(client));
+    /// The number of the node to which it is the link, once it is watched as one.
+    pub(crate) fn peer(&self) -> Option<usize> {
+        match self.name.get() {
+            Some(Watched::Peer(peer)) => Some(peer),
+            _ => None,
+        }
+    }
+
+    /// It is watched as this.
+    pub(crate) fn name(&self, name: Watched) {
+        self.name.set(Some(name));
     }
 
     /// Until when the client is held back, while too much waits: where it has published since that is so, for as long as it is held back at most.

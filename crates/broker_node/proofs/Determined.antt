@@ -32,7 +32,7 @@ use Rattle.node_clients.proofs.DeterminedClients.{moves_away_determined, removes
 use Rattle.broker_node.specs.declared.event.Event.{Event}
 use Rattle.broker_node.specs.declared.event.EventKind.{EventKind}
 use Rattle.broker_node.specs.declared.event.EventKind.TheVariants as kinds
-use Rattle.broker_node.specs.Bridge.{AreShipped, GivesState, Greets, HearsFrame, Merges, Ships, ShipsMessages, ShipsState, ShipsTo, TakesBody, TakesMessage, TakesNext, TellsTaken}
+use Rattle.broker_node.specs.Bridge.{AreShipped, GivesState, Greets, HearsFrame, Merges, Ships, ShipsLater, ShipsMessages, ShipsMore, ShipsMoreTo, ShipsState, ShipsTo, TakesBody, TakesMessage, TakesNext, TellsTaken}
 use Rattle.broker_node.specs.Due.{ClosesStored, DoesDue, EndsConnections, EndsSessions, PartsFrom, PublishesWills, RunsOut, Starts, TicksOf}
 use Rattle.broker_node.specs.Turns.{AnswersEvent, Decides, Evicts, AwaitsStart, AnswersAfterDue, Turn}
 
@@ -71,6 +71,14 @@ ships_to_determined peer =
 
 ships_determined : (peer : ℕ) → Determined (Ships peer)
 ships_determined peer = looks_determined _ _ (λ other. if_determined other (ShipsTo peer) (Returns tt) (ships_to_determined peer) (returns_determined tt))
+
+ships_more_to_determined : (peer after : ℕ) → Determined (ShipsMoreTo peer after)
+ships_more_to_determined peer after =
+    then_determined (ShipsState peer) (λ _. ShipsLater peer after) (finds_determined (AreShipped peer) (GivesState peer) (shipped_alone peer) (gives_state_determined peer))
+    (λ _. looks_determined _ _ (each_determined GivesFrame gives_frame_determined))
+
+ships_more_determined : (peer after : ℕ) → Determined (ShipsMore peer after)
+ships_more_determined peer after = looks_determined _ _ (λ other. if_determined other (ShipsMoreTo peer after) (Returns tt) (ships_more_to_determined peer after) (returns_determined tt))
 
 tells_taken_determined : (from : ℕ) → Determined (TellsTaken from)
 tells_taken_determined from = gives_determined from (λ h. Know h.store.taken)
@@ -151,6 +159,7 @@ first_determined (kinds.Closed connection) = returns_determined tt
 first_determined (kinds.Frame bytes) = returns_determined tt
 first_determined (kinds.Linked peer) = returns_determined tt
 first_determined (kinds.Ship peer) = returns_determined tt
+first_determined (kinds.More peer after) = returns_determined tt
 first_determined kinds.Tick = returns_determined tt
 first_determined (kinds.Evict client) = returns_determined tt
 first_determined (kinds.Table homes) = returns_determined tt
@@ -164,6 +173,7 @@ answers_determined (kinds.Closed connection) = leaves_determined connection
 answers_determined (kinds.Frame bytes) = hears_frame_determined (frame_in bytes)
 answers_determined (kinds.Linked peer) = greets_determined peer
 answers_determined (kinds.Ship peer) = ships_determined peer
+answers_determined (kinds.More peer after) = ships_more_determined peer after
 answers_determined kinds.Tick = returns_determined tt
 answers_determined (kinds.Evict client) = evicts_determined client
 answers_determined (kinds.Table homes) = takes_table_determined homes
@@ -180,6 +190,7 @@ goes_on_determined (kinds.Closed connection) = due_and_answers_determined (kinds
 goes_on_determined (kinds.Frame bytes) = due_and_answers_determined (kinds.Frame bytes)
 goes_on_determined (kinds.Linked peer) = due_and_answers_determined (kinds.Linked peer)
 goes_on_determined (kinds.Ship peer) = due_and_answers_determined (kinds.Ship peer)
+goes_on_determined (kinds.More peer after) = due_and_answers_determined (kinds.More peer after)
 goes_on_determined kinds.Tick = due_and_answers_determined kinds.Tick
 goes_on_determined (kinds.Evict client) = due_and_answers_determined (kinds.Evict client)
 goes_on_determined (kinds.Table homes) = due_and_answers_determined (kinds.Table homes)

@@ -1,12 +1,14 @@
 -- What a node sends of its own accord is what it holds.
-use Rattle.std.proofs.Common.{◌≡◌, ℕ, ◌+◌, zero, suc, arith, add-zero, Bool, true, false, cond, List, [], ◌∷◌, take, Option, Some, refl, sym, ap, subst, ◌∙◌}
+use Rattle.std.proofs.Common.{◌≡◌, ℕ, ◌+◌, zero, suc, arith, add-zero, Bool, true, false, cond, List, [], ◌∷◌, take, drop, Option, Some, refl, sym, ap, subst, ◌∙◌}
 use Rattle.std.specs.List.{slice_get}
 use Rattle.bridge_deltas.specs.Lane.{first_frames, frames_from}
+use Rattle.bridge_deltas.specs.More.{fitting, frames_after}
 use Rattle.bridge_frames.specs.declared.body.FrameBody.{FrameBody}
 use Rattle.bridge_frames.specs.declared.body.FrameBody.TheVariants as bodies
 use Rattle.bridge_frames.specs.declared.forward.Forward.{Forward}
 use Rattle.bridge_frames.specs.declared.frame.BridgeFrame.{BridgeFrame}
-use Rattle.bridge_lanes.specs.Lanes.{Waits}
+use Rattle.bridge_lanes.proofs.LaneLists.{get-drop}
+use Rattle.bridge_lanes.specs.Lanes.{Waits, up_to}
 use Rattle.node_bridge.specs.View.{BridgeView, IsToShip, lane_to}
 use Rattle.replica_store.specs.States.{State}
 use Rattle.node_work.specs.declared.counts.Missed.TheVariants.{FrameTooLarge}
@@ -16,7 +18,7 @@ use Rattle.node_work.specs.Held.Bridge.{Carries, Gave}
 use Rattle.node_work.specs.View.{HeldView, Place, WorkView}
 use Rattle.node_work.specs.Working.{Acting, Did, Doing, Each, If, Looks}
 use Rattle.node_work.proofs.Working.{Reaches, did_as}
-use Rattle.broker_node.specs.Bridge.{ShipsMessages}
+use Rattle.broker_node.specs.Bridge.{ShipsLater, ShipsMessages}
 
 -- ---- the state
 
@@ -45,6 +47,14 @@ first_own : (p : Place) (h : HeldView) (peer : ℕ) → AreOwn p h (first_frames
 first_own p h peer =
     let l = lane_to h.bridge peer in
     own_from p h peer (suc l.gone) 64 l.waiting (λ j m e. let number : suc l.gone + j ≡ suc (l.gone + j) = omega arith in (j, number, e))
+
+later_own : (p : Place) (h : HeldView) (peer after : ℕ) → AreOwn p h (frames_after p.id peer after (lane_to h.bridge peer))
+later_own p h peer after =
+    let l = lane_to h.bridge peer in
+    let passed = up_to after l in
+    let left = drop passed l.waiting in
+    own_from p h peer (suc (l.gone + passed)) (fitting 4096 4194304 left) left
+    (λ j m e. let number : suc (l.gone + passed) + j ≡ suc (l.gone + (passed + j)) = omega arith in (passed + j, number, sym (get-drop passed l.waiting j) ∙ e))
 
 -- what a frame that goes out leaves as it was
 carries_still : (h k : HeldView) (to : ℕ) (body : FrameBody) → k.bridge ≡ h.bridge → k.store ≡ h.store → Carries h to body → Carries k to body
@@ -88,4 +98,10 @@ pub ships_begin : (peer : ℕ) (w : WorkView) (fs : List BridgeFrame) → fs ≡
 ships_begin peer w fs e = (
   looks_reached w (λ p h. first_frames p.id peer (lane_to h.bridge peer)) (Each GivesFrame) fs (sym e),
   subst (AreOwn w.place w.held) (sym e) (first_own w.place w.held peer),
+)
+
+pub more_begins : (peer after : ℕ) (w : WorkView) (fs : List BridgeFrame) → fs ≡ frames_after w.place.id peer after (lane_to w.held.bridge peer) → Reaches w (ShipsLater peer after) w (Each GivesFrame fs) × AreOwn w.place w.held fs
+more_begins peer after w fs e = (
+  looks_reached w (λ p h. frames_after p.id peer after (lane_to h.bridge peer)) (Each GivesFrame) fs (sym e),
+  subst (AreOwn w.place w.held) (sym e) (later_own w.place w.held peer after),
 )

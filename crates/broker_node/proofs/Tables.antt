@@ -39,6 +39,7 @@ not_taken true (kinds.Closed connection) ts e d = d
 not_taken true (kinds.Frame bytes) ts e d = d
 not_taken true (kinds.Linked peer) ts e d = d
 not_taken true (kinds.Ship peer) ts e d = d
+not_taken true (kinds.More peer after) ts e d = d
 not_taken true kinds.Tick ts e d = d
 not_taken true (kinds.Evict client) ts e d = d
 not_taken true (kinds.Table homes) ts e d = absurd (let z : true ≡ false = e in cc)
@@ -87,6 +88,7 @@ moves_busy true (kinds.Closed connection) p h moves is idle = absurd (let z : fa
 moves_busy true (kinds.Frame bytes) p h moves is idle = absurd (let z : false ≡ true = moves in cc)
 moves_busy true (kinds.Linked peer) p h moves is idle = absurd (let z : false ≡ true = moves in cc)
 moves_busy true (kinds.Ship peer) p h moves is idle = absurd (let z : false ≡ true = moves in cc)
+moves_busy true (kinds.More peer after) p h moves is idle = absurd (let z : false ≡ true = moves in cc)
 moves_busy true kinds.Tick p h moves is idle = absurd (let z : false ≡ true = moves in cc)
 moves_busy true (kinds.Evict client) p h moves is idle = absurd (let z : false ≡ true = moves in cc)
 moves_busy true (kinds.Table homes) p h moves is (inl waits) = let z : true ≡ false = sym is ∙ waits.0 in cc

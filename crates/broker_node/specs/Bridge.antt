@@ -1,6 +1,7 @@
 -- What nodes tell one another.
 use Rattle.std.specs.Prelude.{ℕ, List, Option, Some, None}
 use Rattle.bridge_deltas.specs.Lane.{first_frames}
+use Rattle.bridge_deltas.specs.More.{frames_after}
 use Rattle.bridge_frames.specs.declared.body.FrameBody.{FrameBody}
 use Rattle.bridge_frames.specs.declared.body.FrameBody.TheVariants.{Hello, Delta, Know, Forward, Got}
 use Rattle.bridge_frames.specs.declared.forward.Forward.{Forward as Message}
@@ -43,6 +44,16 @@ ShipsTo peer = Then (ShipsState peer) (λ _. ShipsMessages peer)
 
 abbrev pub Ships : ℕ → Option (Unit {0}) → Doing
 Ships peer = Looks (λ p h. is_other p peer) (λ other. If other (ShipsTo peer) (Returns tt))
+
+-- in place of these those that wait under numbers above one
+abbrev pub ShipsLater : ℕ → ℕ → Option (Unit {0}) → Doing
+ShipsLater peer after = Looks (λ p h. frames_after p.id peer after (lane_to h.bridge peer)) (Each GivesFrame)
+
+abbrev pub ShipsMoreTo : ℕ → ℕ → Option (Unit {0}) → Doing
+ShipsMoreTo peer after = Then (ShipsState peer) (λ _. ShipsLater peer after)
+
+abbrev pub ShipsMore : ℕ → ℕ → Option (Unit {0}) → Doing
+ShipsMore peer after = Looks (λ p h. is_other p peer) (λ other. If other (ShipsMoreTo peer after) (Returns tt))
 
 -- ---- frames that come
 

@@ -29,6 +29,7 @@ AsksNothing p h (kinds.Closed connection) = is_open connection h ≡ false
 AsksNothing p h (kinds.Frame bytes) = ⊥
 AsksNothing p h (kinds.Linked peer) = is_other p peer ≡ false
 AsksNothing p h (kinds.Ship peer) = is_other p peer ≡ false
+AsksNothing p h (kinds.More peer after) = is_other p peer ≡ false
 AsksNothing p h kinds.Tick = Unit {0}
 AsksNothing p h (kinds.Evict client) = any_of client None h.store.subscriptions ≡ false
 AsksNothing p h (kinds.Table homes) = ⊥

@@ -1,7 +1,7 @@
 //! What nodes tell one another.
 
 ghost use Rattle.std.specs.Prelude.{◌≡◌, ◌≢◌, false, Ok};
-ghost use Rattle.broker_node.specs.Bridge.{Greets, Ships, ShipsState, ShipsMessages, Hears, HearsFrame, TakesBody, TellsTaken, Merges, TakesMessage, TakesNext};
+ghost use Rattle.broker_node.specs.Bridge.{Greets, Ships, ShipsLater, ShipsMore, ShipsState, ShipsMessages, Hears, HearsFrame, TakesBody, TellsTaken, Merges, TakesMessage, TakesNext};
 ghost use Rattle.node_bridge.specs.View.{lane_to};
 ghost use Rattle.node_work.specs.Doings.{GivesBody};
 ghost use Rattle.node_work.specs.Frames.{is_for_node, is_other, names_nodes};
@@ -73,6 +73,28 @@ fn ship_messages(work: &mut Work, peer: u16) -> Result<(), NodeFault>
     ensures { ComesTo (λ x. x) result work.old work.new (ShipsMessages peer) }
 {
     let frames = work.held().bridge().waiting(work.id(), peer)?;
+    for frame in frames {
+        work.release(frame)?;
+    }
+    Ok(())
+}
+
+/// Sends another node of the cluster what it may lack of the state, and then of the messages that wait for it those with numbers above one.
+pub fn ship_more(work: &mut Work, peer: u16, after: u64) -> Result<(), NodeFault>
+    ensures idle { is_other work.old.place peer ≡ false → (result ≡ Ok tt) × (work.new ≡ work.old) }
+    ensures comes { ComesTo (λ x. x) result work.old work.new (ShipsMore peer after) }
+{
+    if !is_other(work, peer) {
+        return Ok(());
+    }
+    ship_state(work, peer)?;
+    ship_later(work, peer, after)
+}
+
+fn ship_later(work: &mut Work, peer: u16, after: u64) -> Result<(), NodeFault>
+    ensures { ComesTo (λ x. x) result work.old work.new (ShipsLater peer after) }
+{
+    let frames = work.held().bridge().waiting_after(work.id(), peer, after)?;
     for frame in frames {
         work.release(frame)?;
     }

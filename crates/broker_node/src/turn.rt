@@ -7,7 +7,7 @@ ghost use Rattle.broker_node.specs.Turns.{Decides, Turn, AnswersEvent, AnswersAf
 ghost use Rattle.node_work.specs.Working.{ComesTo};
 ghost use Rattle.node_work.specs.declared.fault.NodeFault.TheVariants.{NumbersAtEnd};
 
-use crate::bridge::{greet, hear, ship};
+use crate::bridge::{greet, hear, ship, ship_more};
 use crate::due::{do_due, start};
 use crate::event::{Event, EventKind};
 use crate::moving::take_table;
@@ -73,6 +73,7 @@ fn answer(work: &mut Work, kind: &EventKind) -> Result<(), NodeFault>
         EventKind::Frame { bytes } => hear(work, bytes.as_slice()),
         EventKind::Linked { peer } => greet(work, *peer),
         EventKind::Ship { peer } => ship(work, *peer),
+        EventKind::More { peer, after } => ship_more(work, *peer, *after),
         EventKind::Tick => Ok(()),
         EventKind::Evict { client } => evict(work, client),
         EventKind::Table { homes } => take_table(work, homes),

@@ -3,9 +3,8 @@
 use crate::limits::bounds_of;
 use broker_command::{AskedUsers, Task};
 use broker_sockets::RealSockets;
-use cli_drops::{Asked, drop_rows};
 use cli_files::{print_user_line, random_salt, read_access, read_password, read_script};
-use cli_reports::{balance, check};
+use cli_reports::{Asked, balance, check, drop_rows};
 use cli_stops::Ending;
 use door_limits::Limits;
 use door_users::FileAccess;

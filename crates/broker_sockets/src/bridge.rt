@@ -17,8 +17,10 @@ pub enum PeerEventKind {
     Linked { peer: u16 },
     /// A frame came, whole, with its length.
     Frame { bytes: Vec<u8> },
-    /// All that was given for a peer is written on its link: more may be given.
+    /// All that was given for a peer is written on its link: more may be given, from the first that the peer may lack on.
     Ship { peer: u16 },
+    /// A peer takes more: messages with numbers above this one, which is that of the last message that was given for its link.
+    More { peer: u16, after: u64 },
 }
 
 /// A frame for a peer.

@@ -7,6 +7,7 @@ use Rattle.std.specs.declared.net.socket_addr.SocketAddr.{SocketAddr}
 use Rattle.slab.specs.Slab.{Slab, get}
 use Rattle.broker_sockets.specs.declared.bridge.Given.{Given}
 use Rattle.broker_sockets.specs.declared.bridge.PeerEvent.{PeerEvent}
+use Rattle.broker_sockets.specs.declared.bridge.PeerEventKind.{PeerEventKind}
 use Rattle.broker_sockets.specs.declared.events.Event.{Event}
 use Rattle.broker_sockets.specs.declared.events.Output.{Output}
 use Rattle.broker_sockets.specs.declared.network.Answer.{Answer}
@@ -358,10 +359,10 @@ module _ {H T : Type 0} (handles : H → Event → List Output → H → Type 0)
   frames_heard (frame ∷ frames) n n' all =
       tells_over handles hears n.handler all.0.handler n'.handler (tells_peer handles hears n.handler _ all.1.heard.given all.0.handler all.1.heard.answered) (frames_heard frames all.0 n' all.2)
 
-  shipped_if : (due : Bool) (peer : ℕ) (n n' : Near H T) → IsShippedIf hears at due peer n n' → Tells handles hears n.handler n'.handler
-  shipped_if true peer n n' is =
+  shipped_if : (kind : Option PeerEventKind) (peer : ℕ) (n n' : Near H T) → IsShippedIf hears at kind peer n n' → Tells handles hears n.handler n'.handler
+  shipped_if (Some kind) peer n n' is =
       tells_over handles hears n.handler is.0.handler n'.handler (tells_peer handles hears n.handler _ is.1.given is.0.handler is.1.answered) (tells_none handles hears is.0.handler n'.handler is.2.handler)
-  shipped_if false peer n n' same = tells_none handles hears n.handler n'.handler (ap (λ (m : Near H T). m.handler) same)
+  shipped_if None peer n n' same = tells_none handles hears n.handler n'.handler (ap (λ (m : Near H T). m.handler) same)
 
   shipped : (link : Option (Line T)) (peer : ℕ) (n n' : Near H T) → IsShipped hears at link peer n n' → Tells handles hears n.handler n'.handler
   shipped None peer n n' same = tells_none handles hears n.handler n'.handler (ap (λ (m : Near H T). m.handler) same)

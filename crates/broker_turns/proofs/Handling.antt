@@ -6,6 +6,7 @@ use Rattle.std.specs.declared.net.socket_addr.SocketAddr.{SocketAddr}
 use Rattle.slab.specs.Slab.{Slab, get}
 use Rattle.broker_sockets.specs.declared.bridge.Given.{Given}
 use Rattle.broker_sockets.specs.declared.bridge.PeerEvent.{PeerEvent}
+use Rattle.broker_sockets.specs.declared.bridge.PeerEventKind.{PeerEventKind}
 use Rattle.broker_sockets.specs.declared.events.Event.{Event}
 use Rattle.broker_sockets.specs.declared.events.EventKind.{EventKind}
 use Rattle.broker_sockets.specs.declared.events.EventKind.TheVariants.{Started, Opened, Piece, Room, Closed, Tick}
@@ -156,9 +157,9 @@ module _ {H : Type 0} (handles : H → Event → List Output → H → Type 0) (
       dialled_at None peer q q' same = sought_same q q' same
       dialled_at (Some address) peer q q' is = dialled_if _ address peer q q' is
 
-      shipped_if : (due : Bool) (peer : ℕ) (n n' : Near H T) → IsShippedIf hears at due peer n n' → Q n.handler n'.handler
-      shipped_if true peer n n' is = over n.handler is.0.handler n'.handler (heard n.handler _ is.1.given is.0.handler is.1.answered) (stays is.0.handler n'.handler is.2.handler)
-      shipped_if false peer n n' same = stays n.handler n'.handler (ap (λ (m : Near H T). m.handler) same)
+      shipped_if : (kind : Option PeerEventKind) (peer : ℕ) (n n' : Near H T) → IsShippedIf hears at kind peer n n' → Q n.handler n'.handler
+      shipped_if (Some kind) peer n n' is = over n.handler is.0.handler n'.handler (heard n.handler _ is.1.given is.0.handler is.1.answered) (stays is.0.handler n'.handler is.2.handler)
+      shipped_if None peer n n' same = stays n.handler n'.handler (ap (λ (m : Near H T). m.handler) same)
 
       pub shipped : (link : Option (Line T)) (peer : ℕ) (n n' : Near H T) → IsShipped hears at link peer n n' → Q n.handler n'.handler
       shipped None peer n n' same = stays n.handler n'.handler (ap (λ (m : Near H T). m.handler) same)

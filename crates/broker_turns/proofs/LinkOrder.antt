@@ -5,6 +5,7 @@ use Rattle.std.specs.declared.alloc.Global.{Global}
 use Rattle.std.specs.declared.net.socket_addr.SocketAddr.{SocketAddr}
 use Rattle.broker_sockets.specs.declared.bridge.Given.{Given}
 use Rattle.broker_sockets.specs.declared.bridge.PeerEvent.{PeerEvent}
+use Rattle.broker_sockets.specs.declared.bridge.PeerEventKind.{PeerEventKind}
 use Rattle.broker_sockets.specs.declared.bridge.PeerFrame.{PeerFrame}
 use Rattle.broker_sockets.specs.declared.events.Event.{Event}
 use Rattle.broker_sockets.specs.declared.events.Output.{Output}
@@ -14,7 +15,7 @@ use Rattle.broker_sockets.specs.declared.ready.Watched.{Watched}
 use Rattle.broker_sockets.specs.declared.network.Answer.{Answer}
 use Rattle.broker_sockets.specs.Answers.{Offers, carried}
 use Rattle.broker_turns.specs.Bridging.{HearsAll, IsFrameHeard, IsBegun, IsBegunBy, IsDialledAt, IsDialledIf, IsDialledOnce, IsWatchedIf, IsHeardFrom, IsHearing, IsLineRead, IsLinkReadIn, IsLinkWrittenIn, IsOffered, IsPeerRead, IsPeerReadIn, IsShipped, IsShippedIf, IsSought, IsSupplied, LineTried, Near, Place, Reach, Relinks, Search, left_if, search}
-use Rattle.broker_turns.specs.Lines.{Framed, Noted, awaited_after, framed, framed_all, framed_at, fresh_line, is_answer, is_due, is_from, is_rested, link_of, marked, noted}
+use Rattle.broker_turns.specs.Lines.{Framed, Noted, answered, asks_for, framed, framed_all, framed_at, fresh_line, is_answer, is_from, is_of, is_rested, link_of, marked, noted, number_in, pushed}
 use Rattle.broker_turns.specs.Order.{Extends, IsNew, IsOf, NoFrameIsLost, TakesNothing, TakesWhatItAnswers, link_flow}
 use Rattle.broker_turns.specs.Steps.{Each, EachBelow, EachTells}
 use Rattle.broker_turns.specs.Turns.{IsDecided, IsGivenOut, IsTakenIn}
@@ -40,14 +41,14 @@ module _ {T : Type 0} (taken : T → List ℕ) (New : ℕ → Line T → Type 0)
   Carries-over : (a b c : List (Option (Line T))) → Carries a b → Carries b c → Carries a c
   Carries-over a b c first second peer line' there = of-then peer (link_of a peer) (link_of b peer) line' (first peer) (second peer line' there)
 
-  framed-if : (mine : Bool) (bytes : List ℕ) (awaited : ℕ) (line : Line T) → Extends (link_flow taken (if mine then record line { unsent = line.unsent ++ bytes; awaited = awaited } else line)) (link_flow taken line)
-  framed-if true bytes awaited line = (bytes, sym (append_assoc (taken line.stream) line.unsent bytes))
-  framed-if false bytes awaited line = Extends-same _ _ refl
+  framed-if : (mine : Bool) (bytes : List ℕ) (line : Line T) → Extends (link_flow taken (if mine then pushed bytes line else line)) (link_flow taken line)
+  framed-if true bytes line = (bytes, sym (append_assoc (taken line.stream) line.unsent bytes))
+  framed-if false bytes line = Extends-same _ _ refl
 
   framed_all-extends : (peer : ℕ) (frames : List PeerFrame) (line : Line T) → Extends (link_flow taken (framed_all peer frames line)) (link_flow taken line)
   framed_all-extends peer [] line = Extends-same _ _ refl
   framed_all-extends peer (frame ∷ frames) line =
-      Extends-over _ _ _ (framed_all-extends peer frames (framed peer frame line)) (framed-if (eqb frame.peer peer) frame.bytes.items (awaited_after frame.bytes.items line) line)
+      Extends-over _ _ _ (framed_all-extends peer frames (framed peer frame line)) (framed-if (eqb frame.peer peer) frame.bytes.items line)
 
   framed-from : (peer : ℕ) (frames : List PeerFrame) (before : Option (Line T)) (line' : Line T) → Some line' ≡ framed_at peer frames before → IsOf taken before (New peer line') line'
   framed-from peer frames None line' e = absurd (cc)
@@ -94,18 +95,23 @@ module _ {T : Type 0} (taken : T → List ℕ) (New : ℕ → Line T → Type 0)
   Carries-marked : (at : ℕ) (d d' : List (Option (Line T))) (peer : ℕ) → Relinks d d' peer (option_map (marked at) (link_of d peer)) → Carries d d'
   Carries-marked at d d' peer is = Carries-relinked d d' peer _ (λ line' e. marked-from peer at (link_of d peer) line' e) is
 
-  noted-if : (sent : Bool) (line : Line T) → Extends (link_flow taken (if sent then record line { awaited = line.awaited - 1 } else line)) (link_flow taken line)
-  noted-if true line = Extends-same _ _ refl
-  noted-if false line = Extends-same _ _ refl
+  answered-same : (got : Bool) (at : ℕ) (frame : List ℕ) (line : Line T)
+      → link_flow taken (if got then record line { asked = Some at; got = number_in frame } else record line { asked = Some at; awaited = false }) ≡ link_flow taken line
+  answered-same true at frame line = refl
+  answered-same false at frame line = refl
 
-  noted-from : (peer : ℕ) (frame : List ℕ) (before : Option (Line T)) (line' : Line T) → Some line' ≡ noted peer frame before → IsOf taken before (New peer line') line'
-  noted-from peer frame None line' e = absurd (cc)
-  noted-from peer frame (Some line) line' e =
-      let is : line' ≡ (if is_from peer frame && is_answer frame then record line { awaited = line.awaited - 1 } else line) = cc in
-      inl (line, refl, rw is (noted-if (is_from peer frame && is_answer frame) line))
+  noted-if : (sent : Bool) (at : ℕ) (frame : List ℕ) (line : Line T) → Extends (link_flow taken (if sent then answered at frame line else line)) (link_flow taken line)
+  noted-if true at frame line = Extends-same _ _ (answered-same (is_of 5 frame) at frame line)
+  noted-if false at frame line = Extends-same _ _ refl
 
-  Carries-noted : (frame : List ℕ) (d d' : List (Option (Line T))) → Noted frame d d' → Carries d d'
-  Carries-noted frame d d' is peer line' there = noted-from peer frame (link_of d peer) line' (sym there ∙ is peer)
+  noted-from : (peer at : ℕ) (frame : List ℕ) (before : Option (Line T)) (line' : Line T) → Some line' ≡ noted peer at frame before → IsOf taken before (New peer line') line'
+  noted-from peer at frame None line' e = absurd (cc)
+  noted-from peer at frame (Some line) line' e =
+      let is : line' ≡ (if is_from peer frame && is_answer frame then answered at frame line else line) = cc in
+      inl (line, refl, rw is (noted-if (is_from peer frame && is_answer frame) at frame line))
+
+  Carries-noted : (at : ℕ) (frame : List ℕ) (d d' : List (Option (Line T))) → Noted at frame d d' → Carries d d'
+  Carries-noted at frame d d' is peer line' there = noted-from peer at frame (link_of d peer) line' (sym there ∙ is peer)
 
   begun-new : (peer : ℕ) (stream : T) (line' : Line T) → New peer (fresh_line stream) → Some (fresh_line stream) ≡ Some line' → New peer line'
   begun-new peer stream line' new is =
@@ -139,7 +145,7 @@ module _ {S H T : Type 0} (taken : T → List ℕ) (New : ℕ → Line T → Typ
 
   Carries-frame : (frame : Vec ℕ Global) (n n' : Near H T) → IsFrameHeard hears at frame n n' → Carries taken New over n.dialled n'.dialled
   Carries-frame frame n n' h =
-      Carries-over taken New over n.dialled h.links n'.dialled (Carries-noted taken New over frame.items n.dialled h.links h.noted) (Carries-hearing _ (record n { dialled = h.links }) n' h.heard)
+      Carries-over taken New over n.dialled h.links n'.dialled (Carries-noted taken New over at frame.items n.dialled h.links h.noted) (Carries-hearing _ (record n { dialled = h.links }) n' h.heard)
 
   Carries-hears_all : (frames : List (Vec ℕ Global)) (n n' : Near H T) → HearsAll hears at frames n n' → Carries taken New over n.dialled n'.dialled
   Carries-hears_all [] n n' same = Carries-equal taken New over n.dialled n'.dialled (ap (λ m. m.dialled) same)
@@ -203,14 +209,14 @@ module _ {S H T : Type 0} (taken : T → List ℕ) (New : ℕ → Line T → Typ
   Carries-sought : (peers : List (Option SocketAddr)) (peer : ℕ) (q q' : Search S H T) → ((known : SocketAddr) → slice_index_or peers peer None ≡ Some known → link_of q.reach.near.dialled peer ≡ None → Begins known q.reach.sockets peer) → IsSought connects watches hears at peers peer q q' → Carries taken New over q.reach.near.dialled q'.reach.near.dialled
   Carries-sought peers peer q q' begins sought = Carries-dialled_at (slice_index_or peers peer None) peer q q' begins sought.by_address
 
-  Carries-shipped_if : (empty : Bool) (peer : ℕ) (n n' : Near H T) → IsShippedIf hears at empty peer n n' → Carries taken New over n.dialled n'.dialled
-  Carries-shipped_if true peer n n' h =
+  Carries-shipped_if : (kind : Option PeerEventKind) (peer : ℕ) (n n' : Near H T) → IsShippedIf hears at kind peer n n' → Carries taken New over n.dialled n'.dialled
+  Carries-shipped_if (Some kind) peer n n' h =
       Carries-over taken New over n.dialled h.0.dialled n'.dialled (Carries-hearing _ n h.0 h.1) (Carries-marked taken New over at h.0.dialled n'.dialled peer h.2.links)
-  Carries-shipped_if false peer n n' same = Carries-equal taken New over _ _ (ap (λ m. m.dialled) same)
+  Carries-shipped_if None peer n n' same = Carries-equal taken New over _ _ (ap (λ m. m.dialled) same)
 
   Carries-shipped : (line : Option (Line T)) (peer : ℕ) (n n' : Near H T) → IsShipped hears at line peer n n' → Carries taken New over n.dialled n'.dialled
   Carries-shipped None peer n n' same = Carries-equal taken New over _ _ (ap (λ m. m.dialled) same)
-  Carries-shipped (Some line) peer n n' h = Carries-shipped_if (is_due at line) peer n n' h
+  Carries-shipped (Some line) peer n n' h = Carries-shipped_if (asks_for at peer line) peer n n' h
 
   Carries-supplied : (peer : ℕ) (n n' : Near H T) → IsSupplied hears at peer n n' → Carries taken New over n.dialled n'.dialled
   Carries-supplied peer n n' h = Carries-shipped (link_of n.dialled peer) peer n n' h.by_link

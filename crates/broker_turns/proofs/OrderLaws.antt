@@ -16,12 +16,13 @@ use Rattle.broker_sockets.specs.declared.events.Output.{Output}
 use Rattle.broker_sockets.specs.declared.events.Output.TheVariants.{Send, Close}
 use Rattle.broker_sockets.specs.declared.bridge.Given.{Given}
 use Rattle.broker_sockets.specs.declared.bridge.PeerEvent.{PeerEvent}
+use Rattle.broker_sockets.specs.declared.bridge.PeerEventKind.{PeerEventKind}
 use Rattle.broker_turns.specs.declared.lines.Line.{Line}
 use Rattle.broker_sockets.specs.declared.ready.Ready.{Ready}
 use Rattle.broker_sockets.specs.declared.ready.Watched.{Watched}
 use Rattle.broker_turns.specs.declared.setting.Setting.{Setting}
 use Rattle.broker_turns.specs.Bridging.{HearsAll, IsBegunBy, IsDialledAt, IsDialledIf, IsHeardFrom, IsHearing, IsDialledOnce, IsLinkReadIn, IsPeerRead, IsPeerReadIn, IsShipped, IsShippedIf, IsSought, IsSupplied, Near, Place, Reach, Search}
-use Rattle.broker_turns.specs.Lines.{is_due, is_rested, link_of}
+use Rattle.broker_turns.specs.Lines.{asks_for, is_rested, link_of}
 use Rattle.broker_sockets.specs.Answers.{IsWithin, carried, left_after, Offers}
 use Rattle.broker_turns.specs.Clients.{sent, closed, takes_more, told, told_all, told_at, Released}
 use Rattle.broker_turns.specs.Writing.{Tried}
@@ -304,13 +305,13 @@ module _ {S H T : Type 0} (taken : T → List ℕ) (watches : S → T → Watche
   Keeps-sought : (peers : List (Option SocketAddr)) (peer : ℕ) (q q' : Search S H T) → IsSought connects watches hears at peers peer q q' → Keeps taken q.reach.near.clients q'.reach.near.clients
   Keeps-sought peers peer q q' sought = Keeps-dialled_at (slice_index_or peers peer None) peer q q' sought.by_address
 
-  Keeps-shipped_if : (empty : Bool) (peer : ℕ) (n n' : Near H T) → IsShippedIf hears at empty peer n n' → Keeps taken n.clients n'.clients
-  Keeps-shipped_if true peer n n' h = Keeps-over taken n.clients h.0.clients n'.clients (Keeps-hearing _ n h.0 h.1) (Keeps-equal taken h.0.clients n'.clients h.2.clients)
-  Keeps-shipped_if false peer n n' same = Keeps-equal taken _ _ (ap (λ m. m.clients) same)
+  Keeps-shipped_if : (kind : Option PeerEventKind) (peer : ℕ) (n n' : Near H T) → IsShippedIf hears at kind peer n n' → Keeps taken n.clients n'.clients
+  Keeps-shipped_if (Some kind) peer n n' h = Keeps-over taken n.clients h.0.clients n'.clients (Keeps-hearing _ n h.0 h.1) (Keeps-equal taken h.0.clients n'.clients h.2.clients)
+  Keeps-shipped_if None peer n n' same = Keeps-equal taken _ _ (ap (λ m. m.clients) same)
 
   Keeps-shipped : (line : Option (Line T)) (peer : ℕ) (n n' : Near H T) → IsShipped hears at line peer n n' → Keeps taken n.clients n'.clients
   Keeps-shipped None peer n n' same = Keeps-equal taken _ _ (ap (λ m. m.clients) same)
-  Keeps-shipped (Some line) peer n n' h = Keeps-shipped_if (is_due at line) peer n n' h
+  Keeps-shipped (Some line) peer n n' h = Keeps-shipped_if (asks_for at peer line) peer n n' h
 
   Keeps-supplied : (peer : ℕ) (n n' : Near H T) → IsSupplied hears at peer n n' → Keeps taken n.clients n'.clients
   Keeps-supplied peer n n' h = Keeps-shipped (link_of n.dialled peer) peer n n' h.by_link

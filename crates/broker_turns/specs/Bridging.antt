@@ -11,12 +11,12 @@ use Rattle.broker_sockets.specs.declared.ready.Watched.TheVariants.{Link, Peer}
 use Rattle.broker_sockets.specs.declared.bridge.Given.{Given}
 use Rattle.broker_sockets.specs.declared.bridge.PeerEvent.{PeerEvent}
 use Rattle.broker_sockets.specs.declared.bridge.PeerEventKind.{PeerEventKind}
-use Rattle.broker_sockets.specs.declared.bridge.PeerEventKind.TheVariants.{Linked, Frame, Ship}
+use Rattle.broker_sockets.specs.declared.bridge.PeerEventKind.TheVariants.{Linked, Frame}
 use Rattle.broker_turns.specs.declared.lines.Line.{Line}
 use Rattle.broker_sockets.specs.Answers.{Offers}
 use Rattle.broker_turns.specs.Clients.{Released}
 use Rattle.broker_sockets.specs.Frames.{IsCut}
-use Rattle.broker_turns.specs.Lines.{Framed, Noted, fresh_line, is_due, is_rested, link_of, marked}
+use Rattle.broker_turns.specs.Lines.{Framed, Noted, asks_for, fresh_line, is_rested, link_of, marked}
 
 -- what handles events, the clients by connection, and the links that were dialled, by peer
 pub record Near (H T : Type 0) : Type 0 where
@@ -65,7 +65,7 @@ module _ {H T : Type 0} (hears : H → PeerEvent → Given → H → Type 0) whe
   -- an answer is noted on the link of the node that sends it, and the frame is handed over
   pub record IsFrameHeard (at : ℕ) (frame : Vec ℕ Global) (n n' : Near H T) : Type 0 where
     pub links : List (Option (Line T))
-    pub noted : Noted frame.items n.dialled links
+    pub noted : Noted at frame.items n.dialled links
     pub heard : IsHearing (peer_event at (Frame frame)) (record n { dialled = links }) n'
 
   -- frames are handed over, in order
@@ -93,6 +93,8 @@ pub record IsLineRead {S T : Type 0} (reads : S → T → Answer → List ℕ �
   pub unsent : line'.unsent ≡ line.unsent
   pub still : line'.asked ≡ line.asked
   pub as_ever : line'.awaited ≡ line.awaited
+  pub sent : line'.sent ≡ line.sent
+  pub got : line'.got ≡ line.got
 
 module _ {S T : Type 0} (writes : S → T → List ℕ → Answer → S → T → Type 0) where
   -- a link is asked exactly where something waits
@@ -100,6 +102,7 @@ module _ {S T : Type 0} (writes : S → T → List ℕ → Answer → S → T �
   LineTried s line None s' left = (line.unsent ≡ []) × (s' ≡ s) × (left ≡ line)
   LineTried s line (Some answer) s' left =
       Offers writes line.unsent s line.stream answer left.unsent s' left.stream × (left.held ≡ line.held) × (left.asked ≡ line.asked) × (left.awaited ≡ line.awaited)
+      × (left.sent ≡ line.sent) × (left.got ≡ line.got)
 
 -- a link goes on unless it failed or more than 536,870,912 bytes wait
 abbrev pub goes_on_by : Option Answer → ℕ → Bool
@@ -241,13 +244,13 @@ pub record IsMarked {H T : Type 0} (at peer : ℕ) (n n' : Near H T) : Type 0 wh
   pub links : Relinks n.dialled n'.dialled peer (option_map (marked at) (link_of n.dialled peer))
 
 module _ {H T : Type 0} (hears : H → PeerEvent → Given → H → Type 0) (at : ℕ) where
-  abbrev pub IsShippedIf : Bool → ℕ → Near H T → Near H T → Type 0
-  IsShippedIf true peer n n' = (m : Near H T) × IsHearing hears (peer_event at (Ship peer)) n m × IsMarked at peer m n'
-  IsShippedIf false peer n n' = n' ≡ n
+  abbrev pub IsShippedIf : Option PeerEventKind → ℕ → Near H T → Near H T → Type 0
+  IsShippedIf (Some kind) peer n n' = (m : Near H T) × IsHearing hears (peer_event at kind) n m × IsMarked at peer m n'
+  IsShippedIf None peer n n' = n' ≡ n
 
   abbrev pub IsShipped : Option (Line T) → ℕ → Near H T → Near H T → Type 0
   IsShipped None peer n n' = n' ≡ n
-  IsShipped (Some line) peer n n' = IsShippedIf (is_due at line) peer n n'
+  IsShipped (Some line) peer n n' = IsShippedIf (asks_for at peer line) peer n n'
 
   -- the handler is asked for more just where there is a link to the peer on which it is due
   pub record IsSupplied (peer : ℕ) (n n' : Near H T) : Type 0 where

@@ -1,5 +1,7 @@
 -- The sockets between nodes: links that were dialled, by the number of the peer, and links that were accepted.
-use Rattle.std.specs.Prelude.{◌≡◌, ℕ, ◌+◌, ◌*◌, ◌-◌, List, [], ◌∷◌, ◌++◌, length, Bool, true, false, ◌&&◌, ◌||◌, eqb, leb, ltb, if◌then◌else◌, slice_index_or, Option, Some, None}
+use Rattle.std.specs.Prelude.{◌≡◌, ℕ, ◌+◌, ◌*◌, ◌-◌, List, [], ◌∷◌, ◌++◌, length, Bool, true, false, not, ◌&&◌, ◌||◌, eqb, leb, ltb, is_none, is_some, if◌then◌else◌, slice_index_or, Option, Some, None}
+use Rattle.broker_sockets.specs.declared.bridge.PeerEventKind.{PeerEventKind}
+use Rattle.broker_sockets.specs.declared.bridge.PeerEventKind.TheVariants.{More, Ship}
 use Rattle.broker_sockets.specs.declared.bridge.PeerFrame.{PeerFrame}
 use Rattle.broker_turns.specs.declared.lines.Line.{Line}
 
@@ -12,28 +14,43 @@ is_rested pause at (Some last) = ltb at last || leb pause (at - last)
 abbrev pub is_from : ℕ → List ℕ → Bool
 is_from peer frame = ltb 6 (length frame) && eqb (slice_index_or frame 5 0 * 256 + slice_index_or frame 6 0) peer
 
--- a frame's fifth byte is its kind; a Forward and a Delta are answered by the peer they go to, a Forward by a Got and a Delta by a Know
+-- a frame's fifth byte is its kind; a Forward (4) and a Delta (6) are answered by the peer they go to, a Forward by a Got (5) and a Delta by a Know (3)
 abbrev pub is_of : ℕ → List ℕ → Bool
 is_of kind frame = ltb 4 (length frame) && eqb (slice_index_or frame 4 0) kind
-
-abbrev pub is_asking : List ℕ → Bool
-is_asking frame = is_of 4 frame || is_of 6 frame
 
 abbrev pub is_answer : List ℕ → Bool
 is_answer frame = is_of 5 frame || is_of 3 frame
 
--- answers are counted up to 65,535
-abbrev pub one_more : ℕ → ℕ
-one_more n = if ltb n 65535 then n + 1 else n
+-- a Forward and a Got have a number in the eight bytes from the tenth on, the highest first; what a frame lacks of them is 0
+abbrev pub byte_at : ℕ → List ℕ → ℕ
+byte_at place frame = slice_index_or frame place 0
+
+abbrev pub four_at : ℕ → List ℕ → ℕ
+four_at place frame = (byte_at place frame * 256 + byte_at (place + 1) frame) * 65536 + (byte_at (place + 2) frame * 256 + byte_at (place + 3) frame)
+
+abbrev pub number_in : List ℕ → ℕ
+number_in frame = four_at 9 frame * 4294967296 + four_at 13 frame
 
 module _ {T : Type 0} where
   -- nothing has come, and nothing waits
   abbrev pub fresh_line : T → Line T
-  fresh_line stream = record { stream = stream; held = []; unsent = []; asked = None; awaited = 0 }
+  fresh_line stream = record { stream = stream; held = []; unsent = []; asked = None; awaited = false; sent = 0; got = 0 }
 
-  -- more is asked for where nothing waits, once the peer has answered all that came of the last time, or a second after it
+  -- the peer owes a Know, or a Got for the last Forward
+  abbrev pub is_unanswered : Line T → Bool
+  is_unanswered line = line.awaited || ltb line.got line.sent
+
+  -- all is asked for that the peer may lack where nothing waits: at first, and once the peer owes an answer and has given none for a second
   abbrev pub is_due : ℕ → Line T → Bool
-  is_due at line = eqb (length line.unsent) 0 && (eqb line.awaited 0 || is_rested 1000 at line.asked)
+  is_due at line = eqb (length line.unsent) 0 && (is_none line.asked || (is_unanswered line && is_rested 1000 at line.asked))
+
+  -- and then what wasn't given yet, while fewer than 65,536 bytes wait, no Know is owed, and fewer than 16,384 messages are unconfirmed
+  abbrev pub takes_more : Line T → Bool
+  takes_more line = is_some line.asked && ltb (length line.unsent) 65536 && not line.awaited && ltb (line.sent - line.got) 16384
+
+  -- what is asked for on the link of a peer
+  abbrev pub asks_for : ℕ → ℕ → Line T → Option PeerEventKind
+  asks_for at peer line = if is_due at line then Some (Ship peer) else if takes_more line then Some (More peer line.sent) else None
 
   -- more was asked for, and frames came of it, where something waits now
   abbrev pub marked : ℕ → Line T → Line T
@@ -43,21 +60,21 @@ module _ {T : Type 0} where
   abbrev pub link_of : List (Option (Line T)) → ℕ → Option (Line T)
   link_of links peer = slice_index_or links peer None
 
-  abbrev pub noted : ℕ → List ℕ → Option (Line T) → Option (Line T)
-  noted peer frame None = None
-  noted peer frame (Some line) = Some (if is_from peer frame && is_answer frame then record line { awaited = line.awaited - 1 } else line)
+  -- an answer of the peer: a Got has the number of the last message that it has taken, and else it is a Know
+  abbrev pub answered : ℕ → List ℕ → Line T → Line T
+  answered at frame line = if is_of 5 frame then record line { asked = Some at; got = number_in frame } else record line { asked = Some at; awaited = false }
+
+  abbrev pub noted : ℕ → ℕ → List ℕ → Option (Line T) → Option (Line T)
+  noted peer at frame None = None
+  noted peer at frame (Some line) = Some (if is_from peer frame && is_answer frame then answered at frame line else line)
 
   -- an answer is noted on the link of the peer that has sent it
-  abbrev pub Noted : List ℕ → List (Option (Line T)) → List (Option (Line T)) → Type 0
-  Noted frame old new = (peer : ℕ) → link_of new peer ≡ noted peer frame (link_of old peer)
+  abbrev pub Noted : ℕ → List ℕ → List (Option (Line T)) → List (Option (Line T)) → Type 0
+  Noted at frame old new = (peer : ℕ) → link_of new peer ≡ noted peer at frame (link_of old peer)
 
-  -- how many answers of the peer are awaited: of what was given since nothing waited last, where an answer comes to what is given
-  abbrev pub awaited_after : List ℕ → Line T → ℕ
-  awaited_after bytes line = if is_asking bytes then one_more (if eqb (length line.unsent) 0 then 0 else line.awaited) else line.awaited
-
-  -- a frame waits behind what waits
+  -- a frame waits behind what waits; a Delta is to be answered, and a Forward is the last one that was given
   abbrev pub pushed : List ℕ → Line T → Line T
-  pushed bytes line = record line { unsent = line.unsent ++ bytes; awaited = awaited_after bytes line }
+  pushed bytes line = record line { unsent = line.unsent ++ bytes; awaited = line.awaited || is_of 6 bytes; sent = if is_of 4 bytes then number_in bytes else line.sent }
 
   -- a frame waits behind what waits on its peer's link
   abbrev pub framed : ℕ → PeerFrame → Line T → Line T

@@ -1,33 +1,39 @@
 //! Links between nodes, and what is given out for them.
-ghost use Rattle.std.specs.Prelude.{◌≡◌, ◌∷◌, [], length, OnOk, OnErr, IfOk};
-ghost use Rattle.broker_turns.specs.Lines.{Framed, Noted, awaited_after, fresh_line, is_answer, is_asking, is_due, is_rested, marked, one_more, pushed};
-ghost use Rattle.broker_turns.specs.Bridging.{IsLineRead, IsLineWritten};
+ghost use Rattle.std.specs.Prelude.{◌≡◌, ◌<◌, ◌^◌, ◌∷◌, [], length, option_map, slice_index_or, OnOk, OnErr, IfOk};
+ghost use Rattle.broker_turns.specs.Lines.{Framed, Noted, answered, asks_for, four_at, fresh_line, is_answer, is_due, is_of, is_rested, is_unanswered, link_of, marked, number_in, pushed, takes_more};
+ghost use Rattle.broker_turns.specs.Bridging.{IsLineRead, IsLineWritten, Relinks};
 ghost use Rattle.broker_turns.specs.Broken.{IsReadOnce};
 
-use broker_sockets::{Answer, Held, PeerFrame, Sockets, Unsent};
+use broker_sockets::{Answer, Held, PeerEventKind, PeerFrame, Sockets, Unsent};
 use std::alloc::{AllocError, Global};
 
-/// One socket between two nodes: what came of a frame that isn't whole yet, what waits to be written, when more was
-/// asked for last, if frames came of that, and how many answers of the peer are awaited.
+/// One socket between two nodes: what came of a frame that isn't whole yet, and what waits to be written; when more was asked for last, if
+/// frames came of that, or the peer answered last; whether its answer to a Delta is awaited; and the numbers of the last Forward that was given
+/// for the link and of the last Got of the peer, 0 where there was none.
 #[derive(Drop)]
 pub struct Line<T: Drop> {
     pub stream: T,
     pub held: Held,
     pub unsent: Unsent,
     pub asked: Option<u64>,
-    pub awaited: u64,
+    pub awaited: bool,
+    pub sent: u64,
+    pub got: u64,
 }
 
 /// A link with more unsent bytes than this is closed.
 const MOST_UNSENT: usize = 536870912;
 
-/// For so many milliseconds no more is asked for while answers are awaited.
+/// A peer that owes an answer for so many milliseconds is given again what it may lack.
 const SILENCE: u64 = 1000;
 
-/// So many answers are counted at most.
-const MOST_AWAITED: u64 = 65535;
+/// More is asked for while fewer unsent bytes wait than these.
+const ROOM: usize = 65536;
 
-/// Where a frame has its kind, and the kinds of which each asks for one answer, and of its answer.
+/// And while fewer messages are unconfirmed.
+const MOST_UNCONFIRMED: u64 = 16384;
+
+/// Where a frame has its kind, and the kinds of a Forward and of the Got that answers it, and of a Delta and of the Know that answers it.
 const KIND: usize = 4;
 
 const FORWARD: u8 = 4;
@@ -40,6 +46,9 @@ const KNOW: u8 = 3;
 
 /// Where a frame has the number of the node that sends it, in two bytes, the higher one first.
 const SENDER: usize = 5;
+
+/// Where a Forward and a Got have a number, in eight bytes, the highest one first.
+const NUMBER: usize = 9;
 
 /// What a read of a link brought: the frames that it made whole, in order, whether the link goes on, and whether it may have
 /// more.
@@ -60,29 +69,47 @@ pub fn is_rested(pause: u64, last: Option<u64>, at: u64) -> bool
     }
 }
 
-/// Whether a frame is answered by the peer that it goes to.
-fn is_asking(frame: &[u8]) -> bool
-    ensures { result ≡ is_asking frame.now }
+/// Whether a frame is of a kind.
+fn is_of(kind: u8, frame: &[u8]) -> bool
+    ensures { result ≡ is_of kind frame.now }
 {
-    frame.len() > KIND && (frame[KIND] == FORWARD || frame[KIND] == DELTA)
+    frame.len() > KIND && frame[KIND] == kind
 }
 
-/// Whether a frame is such an answer.
+/// Whether a frame answers another one.
 fn is_answer(frame: &[u8]) -> bool
     ensures { result ≡ is_answer frame.now }
 {
-    frame.len() > KIND && (frame[KIND] == GOT || frame[KIND] == KNOW)
+    is_of(GOT, frame) || is_of(KNOW, frame)
 }
 
-/// One answer more.
-fn one_more(awaited: u64) -> u64
-    ensures { result ≡ one_more awaited }
+/// The byte at a place of a frame, or 0 behind its end.
+fn byte_at(place: usize, frame: &[u8]) -> u64
+    ensures same { result ≡ slice_index_or frame.now place 0 }
+    ensures small { result < 256 }
 {
-    if awaited < MOST_AWAITED {
-        awaited + 1
-    } else {
-        awaited
+    match frame.get(place) {
+        Some(byte) => u64::from(*byte),
+        None => 0,
     }
+}
+
+/// The number in four bytes of a frame from a place on.
+fn four_at(place: usize, frame: &[u8]) -> u64
+    requires { place < 65536 }
+    ensures same { result ≡ four_at place frame.now }
+    ensures small { result < 4294967296 }
+{
+    let high = byte_at(place, frame) * 256 + byte_at(place + 1, frame);
+    let low = byte_at(place + 2, frame) * 256 + byte_at(place + 3, frame);
+    high * 65536 + low
+}
+
+/// The number of a Forward or of a Got.
+fn number_in(frame: &[u8]) -> u64
+    ensures { result ≡ number_in frame.now }
+{
+    four_at(NUMBER, frame) * 4294967296 + four_at(NUMBER + 4, frame)
 }
 
 impl<T: Drop> Line<T> {
@@ -95,28 +122,49 @@ impl<T: Drop> Line<T> {
             held: Held::new(alloc),
             unsent: Unsent::new(alloc),
             asked: None,
-            awaited: 0,
+            awaited: false,
+            sent: 0,
+            got: 0,
         }
     }
 
-    /// Whether more is to be asked for at a moment.
-    pub fn is_due(&self, at: u64) -> bool
+    /// Whether the peer owes an answer.
+    fn is_unanswered(&self) -> bool
+        ensures { result ≡ is_unanswered self.now }
+    {
+        self.awaited || self.got < self.sent
+    }
+
+    /// Whether all that the peer may lack is to be asked for at a moment, from the first on.
+    fn is_due(&self, at: u64) -> bool
         ensures { result ≡ is_due at self.now }
     {
-        self.unsent.len() == 0 && (self.awaited == 0 || is_rested(SILENCE, self.asked, at))
+        self.unsent.len() == 0
+            && (self.asked.is_none()
+                || (self.is_unanswered() && is_rested(SILENCE, self.asked, at)))
     }
 
-    /// How many answers are awaited once a frame is given for the link. What is given where nothing waits begins anew.
-    fn awaited_after(&self, frame: &[u8]) -> u64
-        ensures { result ≡ awaited_after frame.now self.now }
+    /// Whether more than was given may be asked for.
+    fn takes_more(&self) -> bool
+        ensures { result ≡ takes_more self.now }
     {
-        if !is_asking(frame) {
-            return self.awaited;
-        }
-        if self.unsent.len() == 0 {
-            one_more(0)
+        self.asked.is_some()
+            && self.unsent.len() < ROOM
+            && !self.awaited
+            && self.sent.saturating_sub(self.got) < MOST_UNCONFIRMED
+    }
+
+    /// What is to be asked for at a moment, on the link of a peer, if anything is.
+    pub fn asks_for(&self, at: u64, peer: u16) -> Option<PeerEventKind>
+        ensures { result ≡ asks_for at peer self.now }
+    {
+        if self.is_due(at) {
+            Some(PeerEventKind::Ship { peer })
+        } else if self.takes_more() {
+            let after = self.sent;
+            Some(PeerEventKind::More { peer, after })
         } else {
-            one_more(self.awaited)
+            None
         }
     }
 
@@ -124,9 +172,14 @@ impl<T: Drop> Line<T> {
     fn push(&mut self, bytes: Vec<u8>) -> Result<(), AllocError>
         ensures { OnOk result (self.new ≡ pushed bytes.items self.old) }
     {
-        let awaited = self.awaited_after(&bytes);
+        let is_delta = is_of(DELTA, &bytes);
+        let is_forward = is_of(FORWARD, &bytes);
+        let number = number_in(&bytes);
         self.unsent.push(bytes)?;
-        self.awaited = awaited;
+        self.awaited = self.awaited || is_delta;
+        if is_forward {
+            self.sent = number;
+        }
         Ok(())
     }
 
@@ -136,6 +189,18 @@ impl<T: Drop> Line<T> {
     {
         if self.unsent.len() > 0 {
             self.asked = Some(at);
+        }
+    }
+
+    /// The peer answered at a moment.
+    fn take_answer(&mut self, at: u64, frame: &[u8])
+        ensures { self.new ≡ answered at frame.now self.old }
+    {
+        self.asked = Some(at);
+        if is_of(GOT, frame) {
+            self.got = number_in(frame);
+        } else {
+            self.awaited = false;
         }
     }
 }
@@ -187,18 +252,26 @@ pub fn write_line<S: Sockets>(line: &mut Line<S::Stream>, sockets: &mut S) -> bo
     }
 }
 
-/// Notes on the link of the node that sends a frame, if there is one, that it has answered, where the frame is an answer.
-pub fn note_sender<T: Drop>(links: &mut [Option<Line<T>>], frame: &[u8])
-    ensures { Noted frame.now links.old links.new }
+/// Notes on the link of a peer, if there is one, that it has answered at a moment by a frame.
+fn note_answer<T: Drop>(links: &mut [Option<Line<T>>], at: u64, frame: &[u8], peer: usize)
+    requires { peer < length links.old }
+    ensures { Relinks links.old links.new peer (option_map (answered at frame.now) (link_of links.old peer)) }
+{
+    if let Some(line) = &mut links[peer] {
+        line.take_answer(at, frame);
+    }
+}
+
+/// Notes on the link of the node that sends a frame, if there is one, that it has answered at a moment, where the frame is an answer.
+pub fn note_sender<T: Drop>(links: &mut [Option<Line<T>>], at: u64, frame: &[u8])
+    ensures { Noted at frame.now links.old links.new }
 {
     if frame.len() <= SENDER + 1 || !is_answer(frame) {
         return;
     }
     let peer = usize::from(frame[SENDER]) * 256 + usize::from(frame[SENDER + 1]);
     if peer < links.len() {
-        if let Some(line) = &mut links[peer] {
-            line.awaited = line.awaited.saturating_sub(1);
-        }
+        note_answer(links, at, frame, peer);
     }
 }
 

@@ -48,7 +48,7 @@ fn hear_frame<H: BridgeHandler, T: Drop>(
     ensures ok { OnOk result (IsFrameHeard H.hears at bytes (near handler.old clients.old.slab links.old) (near handler.new clients.new.slab links.new)) }
     ensures fault { IfErr result (IsBroken H.handles H.hears H.refuses H.declines at handler.old handler.new) }
 {
-    note_sender(links, &bytes);
+    note_sender(links, at, &bytes);
     let kind = PeerEventKind::Frame { bytes };
     hear_one(clients, links, handler, PeerEvent { at, kind })
 }
@@ -358,7 +358,7 @@ fn mark<T: Drop>(links: &mut [Option<Line<T>>], at: u64, peer: usize)
     }
 }
 
-/// Asks the handler for more where that is due on the link of a peer.
+/// Asks the handler for more where the link of a peer asks for it.
 fn ship_to<H: BridgeHandler, T: Drop>(
     clients: &mut Clients<T>,
     links: &mut [Option<Line<T>>],
@@ -373,16 +373,15 @@ fn ship_to<H: BridgeHandler, T: Drop>(
     let Some(line) = &links[usize::from(peer)] else {
         return Ok(());
     };
-    if !line.is_due(at) {
+    let Some(kind) = line.asks_for(at, peer) else {
         return Ok(());
-    }
-    let kind = PeerEventKind::Ship { peer };
+    };
     hear_one(clients, links, handler, PeerEvent { at, kind })?;
     mark(links, at, usize::from(peer));
     Ok(())
 }
 
-/// Asks the handler for more for each peer on whose link that is due.
+/// Asks the handler for more for each peer whose link asks for it.
 pub fn ship_all<H: BridgeHandler, T: Drop>(
     clients: &mut Clients<T>,
     links: &mut [Option<Line<T>>],

@@ -9,7 +9,7 @@ use Rattle.subscription_set.specs.Standing.{live}
 use Rattle.node_rows.specs.declared.reading.Opened.{Opened}
 use Rattle.node_rows.specs.Reading.{IsLasting, IsOpened, Say}
 use Rattle.node_rows.specs.Rows.{Lasting}
-use Rattle.table_versions.specs.Newest.{newest_of}
+use Rattle.replica_store.specs.Newest.{newest_of}
 use Rattle.cli_reports.specs.declared.figures.Figures.{Figures}
 
 -- two bytes that are the number of a node, the highest first

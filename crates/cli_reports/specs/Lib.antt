@@ -1,4 +1,5 @@
 pub mod Balancer
+pub mod Dropped
 pub mod Figures
 pub mod Finding
 pub mod Flaws

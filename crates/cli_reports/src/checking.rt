@@ -49,6 +49,18 @@ fn older(rt: &HostRuntime, path: &str, figures: &Figures, homes: &HomeTable) -> 
     })
 }
 
+/// The end of a run whose rows in the database at a path can't be had, or can't be changed.
+pub(crate) fn ended(cause: Option<Cause>) -> Ending {
+    let fault = match &cause {
+        Some(cause) => rows_fault(&cause.found),
+        None => RunFault::NoMemory,
+    };
+    Ending {
+        stop: Stop::Run(fault),
+        cause,
+    }
+}
+
 /// Prints what the rows of the named node of a configuration hold, which are in the database at a path. The node is down, and no file is
 /// made or changed. A table from which the node wouldn't be opened ends it as its start.
 pub fn check<W: Write>(
@@ -64,15 +76,6 @@ pub fn check<W: Write>(
             Some(ending) => Err(ending),
             None => print(rt, out, node, id, &figures),
         },
-        Err(cause) => {
-            let fault = match &cause {
-                Some(cause) => rows_fault(&cause.found),
-                None => RunFault::NoMemory,
-            };
-            Err(Ending {
-                stop: Stop::Run(fault),
-                cause,
-            })
-        }
+        Err(cause) => Err(ended(cause)),
     }
 }

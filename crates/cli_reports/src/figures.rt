@@ -12,9 +12,9 @@ use crate::flaw::{Flaw, flaw_of};
 use causal_context::Context;
 use mqtt_fields::NoMemory;
 use node_rows::{Opened, open};
+use replica_store::newest_of;
 use row_store::{Row, RowFault};
 use std::alloc::Global;
-use table_versions::newest_of;
 
 /// The kind of a message that waits for another node.
 const WAITING: u8 = 7;

@@ -3,12 +3,15 @@
 //! What a node's rows hold, in figures and as text, or why they are no node's.
 //! What the rows of a node that is down hold, told to whoever asks.
 //! What HAProxy needs to send each client to its home, as text.
+//! What is dropped of a node that is down, told to whoever asks.
 #![tactic(auto)]
 
 mod balancer;
 mod balancing;
 mod checking;
 mod disk;
+mod dropped;
+mod dropping;
 mod figures;
 mod files;
 mod flaw;
@@ -21,6 +24,8 @@ pub use balancer::balancer_text;
 pub use balancing::balance;
 pub use checking::check;
 pub use disk::unwritten;
+pub use dropped::dropped_text;
+pub use dropping::{Asked, drop_rows};
 pub use figures::{Figures, figures_of};
 pub use flaw::Flaw;
 pub use found::{found_of_flaw, found_of_open};

@@ -66,6 +66,7 @@ module _ (p : Past) (w : World) (e : Explains p w) where
       subst (λ o. AllSound p.ops (brought_in q o)) (sym b.read) (all_if (is_for_node q b.frame) (states_in b.frame.body) (all_in b.frame.body b.told.sound))
   all_brought q (kinds.Linked peer) known = tt
   all_brought q (kinds.Ship peer) known = tt
+  all_brought q (kinds.More peer after) known = tt
   all_brought q kinds.Tick known = tt
   all_brought q (kinds.Evict client) known = tt
   all_brought q (kinds.Table homes) known = tt
@@ -100,6 +101,7 @@ module _ (p : Past) (w : World) (e : Explains p w) where
       so_if (is_for_node q b.frame) (IsHeardOf b.frame.from b.frame.body bs) bs (so_in b.frame.from b.frame.body bs b.told.lists) (subst (λ o. IsHeardIn q o bs) b.read h)
   so_brought q (kinds.Linked peer) bs known h = none_so bs h
   so_brought q (kinds.Ship peer) bs known h = none_so bs h
+  so_brought q (kinds.More peer after) bs known h = none_so bs h
   so_brought q kinds.Tick bs known h = none_so bs h
   so_brought q (kinds.Evict client) bs known h = none_so bs h
   so_brought q (kinds.Table homes) bs known h = none_so bs h

@@ -39,6 +39,7 @@ known_free sent (kinds.Room c bytes) h = tt
 known_free sent (kinds.Frame bytes) h = absurd h
 known_free sent (kinds.Linked peer) h = tt
 known_free sent (kinds.Ship peer) h = tt
+known_free sent (kinds.More peer after) h = tt
 known_free sent kinds.Tick h = tt
 known_free sent (kinds.Evict client) h = tt
 known_free sent (kinds.Table homes) h = tt

@@ -695,6 +695,16 @@ ships peer =
     k_looks Answered answered (λ p h. is_other p peer) (λ other. If other (bridge.ShipsTo peer) (Returns tt))
     (λ other. k_if Answered answered other (bridge.ShipsTo peer) (Returns tt) (ships_to peer) (k_returns Answered answered tt))
 
+ships_more_to : (peer after : ℕ) → Keeps Answered (bridge.ShipsMoreTo peer after)
+ships_more_to peer after =
+    k_then Answered answered (bridge.ShipsState peer) (λ _. bridge.ShipsLater peer after) (k_finds Answered answered (bridge.AreShipped peer) (bridge.GivesState peer) (gives_state peer))
+    (λ _. k_looks Answered answered _ (Each GivesFrame) (λ fs. k_each Answered answered GivesFrame fs gives_frame))
+
+ships_more : (peer after : ℕ) → Keeps Answered (bridge.ShipsMore peer after)
+ships_more peer after =
+    k_looks Answered answered (λ p h. is_other p peer) (λ other. If other (bridge.ShipsMoreTo peer after) (Returns tt))
+    (λ other. k_if Answered answered other (bridge.ShipsMoreTo peer after) (Returns tt) (ships_more_to peer after) (k_returns Answered answered tt))
+
 -- ---- events
 answers_kind : (kind : EventKind) → Keeps Answered (turns.AnswersEvent kind)
 answers_kind kinds.Started = k_returns Answered answered _
@@ -707,6 +717,7 @@ answers_kind (kinds.Room c bytes) = makes_room c bytes
 answers_kind (kinds.Frame bytes) = hears_frame (frame_in bytes)
 answers_kind (kinds.Linked peer) = greets peer
 answers_kind (kinds.Ship peer) = ships peer
+answers_kind (kinds.More peer after) = ships_more peer after
 answers_kind kinds.Tick = k_returns Answered answered _
 answers_kind (kinds.Evict client) = k_then Answered answered (Removes client None) (λ _. Returns tt) (removes client None) (λ _. k_returns Answered answered tt)
 answers_kind (kinds.Table homes) = takes_table homes
@@ -723,6 +734,7 @@ goes_on (kinds.Room c bytes) = after_due (kinds.Room c bytes)
 goes_on (kinds.Frame bytes) = after_due (kinds.Frame bytes)
 goes_on (kinds.Linked peer) = after_due (kinds.Linked peer)
 goes_on (kinds.Ship peer) = after_due (kinds.Ship peer)
+goes_on (kinds.More peer after) = after_due (kinds.More peer after)
 goes_on kinds.Tick = after_due kinds.Tick
 goes_on (kinds.Evict client) = after_due (kinds.Evict client)
 goes_on (kinds.Table homes) = after_due (kinds.Table homes)
@@ -736,6 +748,7 @@ first_turn (kinds.Room c bytes) = k_returns Answered answered _
 first_turn (kinds.Frame bytes) = k_returns Answered answered _
 first_turn (kinds.Linked peer) = k_returns Answered answered _
 first_turn (kinds.Ship peer) = k_returns Answered answered _
+first_turn (kinds.More peer after) = k_returns Answered answered _
 first_turn kinds.Tick = k_returns Answered answered _
 first_turn (kinds.Evict client) = k_returns Answered answered _
 first_turn (kinds.Table homes) = k_returns Answered answered _

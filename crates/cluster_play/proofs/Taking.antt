@@ -138,6 +138,7 @@ frame_lists p (kinds.Room c bytes) d h = cc
 frame_lists p (kinds.Frame bytes) d h = read_lists p bytes d (frame_in bytes) refl h
 frame_lists p (kinds.Linked peer) d h = cc
 frame_lists p (kinds.Ship peer) d h = cc
+frame_lists p (kinds.More peer after) d h = cc
 frame_lists p kinds.Tick d h = cc
 frame_lists p (kinds.Evict client) d h = cc
 frame_lists p (kinds.Table homes) d h = cc

@@ -195,7 +195,7 @@ impl Notes {
         self.tell(at, LogLine::LinkDown(u64::from(peer)))
     }
 
-    /// All that was given for a peer is written on its link, which is up.
+    /// All that was given for a peer was written on its link, which is up.
     fn ship(&mut self, at: u64, peer: u16) -> Result<(), NoMemory>
         ensures { OnOk result (self.new ≡ shipped at peer self.old) }
     {
@@ -213,6 +213,7 @@ impl Notes {
         match &event.kind {
             PeerEventKind::Linked { peer } => self.link(event.at, *peer),
             PeerEventKind::Ship { peer } => self.ship(event.at, *peer),
+            PeerEventKind::More { peer, after: _ } => self.ship(event.at, *peer),
             PeerEventKind::Frame { bytes: _ } => Ok(()),
         }
     }

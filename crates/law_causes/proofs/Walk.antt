@@ -13,6 +13,7 @@ use Rattle.mqtt_sessions.specs.Answers.{disconnect, fits}
 use Rattle.mqtt_sessions.specs.Reaction.{Reaction}
 use Rattle.mqtt_sessions.specs.State.{limit_in}
 use Rattle.bridge_deltas.specs.Lane.{first_frames}
+use Rattle.bridge_deltas.specs.More.{frames_after}
 use Rattle.bridge_frames.specs.declared.body.FrameBody.{FrameBody}
 use Rattle.bridge_frames.specs.declared.body.FrameBody.TheVariants.{Hello, Delta, Know, Forward as Carried, Got}
 use Rattle.bridge_frames.specs.declared.forward.Forward.{Forward}
@@ -415,6 +416,16 @@ module _ (K : (A : Type 0) → (Option A → Doing) → Type 0) (w : Walks K) wh
             w.looks (λ p h. is_other p peer) (λ other. If other (bridge.ShipsTo peer) (Returns tt))
             (λ other. w.by_test other (bridge.ShipsTo peer) (Returns tt) (ships_to peer) (w.returns tt))
 
+        ships_more_to : (peer after : ℕ) → Does (bridge.ShipsMoreTo peer after)
+        ships_more_to peer after =
+            w.join (bridge.ShipsState peer) (λ _. bridge.ShipsLater peer after) (w.finds (bridge.AreShipped peer) (bridge.GivesState peer) (gives_state peer))
+            (λ _. w.looks (λ p h. frames_after p.id peer after (lane_to h.bridge peer)) (Each GivesFrame) (λ fs. each GivesFrame fs gives_frame))
+
+        ships_more : (peer after : ℕ) → Does (bridge.ShipsMore peer after)
+        ships_more peer after =
+            w.looks (λ p h. is_other p peer) (λ other. If other (bridge.ShipsMoreTo peer after) (Returns tt))
+            (λ other. w.by_test other (bridge.ShipsMoreTo peer after) (Returns tt) (ships_more_to peer after) (w.returns tt))
+
         tells_taken : (from : ℕ) → Does (bridge.TellsTaken from)
         tells_taken from = gives from (λ h. Know h.store.taken)
 
@@ -449,6 +460,7 @@ module _ (K : (A : Type 0) → (Option A → Doing) → Type 0) (w : Walks K) wh
         answers_kind (kinds.Frame bytes) is = hears_frame (frame_in bytes)
         answers_kind (kinds.Linked peer) is = greets peer
         answers_kind (kinds.Ship peer) is = ships peer
+        answers_kind (kinds.More peer after) is = ships_more peer after
         answers_kind kinds.Tick is = w.returns tt
         answers_kind (kinds.Evict client) is = evicts client is
         answers_kind (kinds.Table homes) is = takes_table homes
@@ -465,6 +477,7 @@ module _ (K : (A : Type 0) → (Option A → Doing) → Type 0) (w : Walks K) wh
         goes_on (kinds.Frame bytes) is = after_due (kinds.Frame bytes) is
         goes_on (kinds.Linked peer) is = after_due (kinds.Linked peer) is
         goes_on (kinds.Ship peer) is = after_due (kinds.Ship peer) is
+        goes_on (kinds.More peer after) is = after_due (kinds.More peer after) is
         goes_on kinds.Tick is = after_due kinds.Tick is
         goes_on (kinds.Evict client) is = after_due (kinds.Evict client) is
         goes_on (kinds.Table homes) is = after_due (kinds.Table homes) is
@@ -478,6 +491,7 @@ module _ (K : (A : Type 0) → (Option A → Doing) → Type 0) (w : Walks K) wh
         first_turn (kinds.Frame bytes) = w.returns tt
         first_turn (kinds.Linked peer) = w.returns tt
         first_turn (kinds.Ship peer) = w.returns tt
+        first_turn (kinds.More peer after) = w.returns tt
         first_turn kinds.Tick = w.returns tt
         first_turn (kinds.Evict client) = w.returns tt
         first_turn (kinds.Table homes) = w.returns tt

@@ -9,6 +9,7 @@ use Rattle.law_sessions.specs.Runs.{closes, rooms, ticks}
 use Rattle.session_table.specs.Calls.{stays, leaves}
 use Rattle.session_table.specs.Seats.{run_outs, wills_due, ends_due, connected}
 use Rattle.bridge_deltas.specs.Lane.{first_frames}
+use Rattle.bridge_deltas.specs.More.{frames_after}
 use Rattle.bridge_frames.specs.declared.body.FrameBody.{FrameBody}
 use Rattle.bridge_frames.specs.declared.body.FrameBody.TheVariants.{Hello, Delta, Know, Forward, Got}
 use Rattle.bridge_frames.specs.declared.forward.Forward.{Forward as Message}
@@ -180,6 +181,16 @@ module _ (T : Property) (j : Joins T) (serves : (c : ℕ) (client : List ℕ) (k
       k_looks T j (λ p h. is_other p peer) (λ other. If other (bridge.ShipsTo peer) (Returns tt))
       (λ other. k_if T j other (bridge.ShipsTo peer) (Returns tt) (ships_to peer) (k_returns T j tt))
 
+  ships_more_to : (peer after : ℕ) → Keeps T (bridge.ShipsMoreTo peer after)
+  ships_more_to peer after =
+      k_then T j (bridge.ShipsState peer) (λ _. bridge.ShipsLater peer after) (k_finds T j (bridge.AreShipped peer) (bridge.GivesState peer) (gives_state peer))
+      (λ _. k_looks T j (λ p h. frames_after p.id peer after (lane_to h.bridge peer)) (Each GivesFrame) (λ fs. k_each T j GivesFrame fs gives_frame))
+
+  ships_more : (peer after : ℕ) → Keeps T (bridge.ShipsMore peer after)
+  ships_more peer after =
+      k_looks T j (λ p h. is_other p peer) (λ other. If other (bridge.ShipsMoreTo peer after) (Returns tt))
+      (λ other. k_if T j other (bridge.ShipsMoreTo peer after) (Returns tt) (ships_more_to peer after) (k_returns T j tt))
+
   tells_taken : (from : ℕ) → Keeps T (bridge.TellsTaken from)
   tells_taken from = gives from (λ h. Know h.store.taken)
 
@@ -214,6 +225,7 @@ module _ (T : Property) (j : Joins T) (serves : (c : ℕ) (client : List ℕ) (k
   answers_kind (kinds.Frame bytes) = hears_frame (frame_in bytes)
   answers_kind (kinds.Linked peer) = greets peer
   answers_kind (kinds.Ship peer) = ships peer
+  answers_kind (kinds.More peer after) = ships_more peer after
   answers_kind kinds.Tick = k_returns T j _
   answers_kind (kinds.Evict client) = k_then T j (Removes client None) (λ _. Returns tt) (removes T j client None) (λ _. k_returns T j tt)
   answers_kind (kinds.Table homes) = takes_table homes
@@ -230,6 +242,7 @@ module _ (T : Property) (j : Joins T) (serves : (c : ℕ) (client : List ℕ) (k
   goes_on (kinds.Frame bytes) = after_due (kinds.Frame bytes)
   goes_on (kinds.Linked peer) = after_due (kinds.Linked peer)
   goes_on (kinds.Ship peer) = after_due (kinds.Ship peer)
+  goes_on (kinds.More peer after) = after_due (kinds.More peer after)
   goes_on kinds.Tick = after_due kinds.Tick
   goes_on (kinds.Evict client) = after_due (kinds.Evict client)
   goes_on (kinds.Table homes) = after_due (kinds.Table homes)
@@ -243,6 +256,7 @@ module _ (T : Property) (j : Joins T) (serves : (c : ℕ) (client : List ℕ) (k
   first_turn (kinds.Frame bytes) = k_returns T j _
   first_turn (kinds.Linked peer) = k_returns T j _
   first_turn (kinds.Ship peer) = k_returns T j _
+  first_turn (kinds.More peer after) = k_returns T j _
   first_turn kinds.Tick = k_returns T j _
   first_turn (kinds.Evict client) = k_returns T j _
   first_turn (kinds.Table homes) = k_returns T j _

@@ -129,6 +129,7 @@ module _ (put took : Histories) (i : ℕ) where
     all_heard (kinds.Frame bytes) bs known h = all_in bytes bs known.0 known.1 (frame_in bytes) known.2 known.3 refl h
     all_heard (kinds.Linked peer) bs known h = all_none bs h
     all_heard (kinds.Ship peer) bs known h = all_none bs h
+    all_heard (kinds.More peer after) bs known h = all_none bs h
     all_heard kinds.Tick bs known h = all_none bs h
     all_heard (kinds.Evict client) bs known h = all_none bs h
     all_heard (kinds.Table homes) bs known h = all_none bs h

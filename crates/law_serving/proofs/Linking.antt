@@ -1,5 +1,5 @@
 -- The steps of links as calls, with what they bring and tell.
-use Rattle.std.proofs.Common.{◌≡◌, ◌<◌, ◌⊎◌, ℕ, List, [], ◌∷◌, ◌++◌, map, Bool, true, false, eqb, leb, eqb-true, if◌then◌else◌, Option, Some, None, Vec, length, append-nil, refl, sym, ap, subst, ◌∙◌, inl, inr, arith}
+use Rattle.std.proofs.Common.{◌≡◌, ◌<◌, ◌-◌, ◌&&◌, not, is_some, ◌⊎◌, ℕ, List, [], ◌∷◌, ◌++◌, map, Bool, true, false, eqb, leb, ltb, eqb-true, if◌then◌else◌, Option, Some, None, Vec, length, append-nil, refl, sym, ap, subst, ◌∙◌, inl, inr, arith}
 use Rattle.std.proofs.lemmas.Bool.Decides.{eqb_tells, nat_tests}
 use Rattle.std.proofs.lemmas.List.Concat.{flat_map-append}
 use Rattle.std.specs.Prelude.{option_map, flat_map}
@@ -9,7 +9,7 @@ use Rattle.slab.specs.Slab.{Slab, get}
 use Rattle.broker_sockets.specs.Answers.{Offers}
 use Rattle.broker_sockets.specs.declared.bridge.Given.{Given}
 use Rattle.broker_sockets.specs.declared.bridge.PeerEvent.{PeerEvent}
-use Rattle.broker_sockets.specs.declared.bridge.PeerEventKind.TheVariants.{Linked, Ship}
+use Rattle.broker_sockets.specs.declared.bridge.PeerEventKind.TheVariants.{Linked, More, Ship}
 use Rattle.broker_sockets.specs.declared.events.Event.{Event}
 use Rattle.broker_sockets.specs.declared.events.Output.{Output}
 use Rattle.broker_sockets.specs.declared.network.Answer.{Answer}
@@ -22,7 +22,7 @@ use Rattle.broker_turns.specs.declared.lines.Line.{Line}
 use Rattle.broker_turns.specs.declared.setting.Setting.{Setting}
 use Rattle.broker_turns.specs.Bridging.{HearsAll, IsAdmitted, IsBegunBy, IsDialledAt, IsDialledIf, IsDialledOnce, IsLinkAccepted, IsLinkReadIn, IsLinkWrittenIn, IsMarked, IsNoLinkAccepted, IsPeerReadIn, IsShipped, IsShippedIf, IsWatchedIf, LineTried, Near, Place, Reach, Relinks, Search, goes_on_by, left_if, peer_event, place}
 use Rattle.broker_turns.specs.Handling.Told.{Of_peer}
-use Rattle.broker_turns.specs.Lines.{is_due, link_of, marked}
+use Rattle.broker_turns.specs.Lines.{asks_for, is_due, link_of, marked, takes_more}
 use Rattle.law_serving.specs.Calls.{Accepts_link, Call, Dials, Finds, IsAmong, IsFinding, Lets_go, News, Rests, Tells, Through, Watches, Writes, beats, brings, framed, news_closed, tells_of, writes_to}
 use Rattle.law_serving.specs.Channels.{Channel, Holds, IsReadOrShut, channel_at, is_gone, is_same, of_client, of_line}
 use Rattle.law_serving.proofs.Attending.{IsThere}
@@ -32,6 +32,14 @@ use Rattle.law_serving.proofs.Walking.{Reading, link_lined, peer_lined, spot, wa
 
 more-not-leb : (n m : ℕ) → leb n m ≡ false → m < n
 more-not-leb n m is = grind (arith, is, nat_tests)
+
+second : (a b c d : Bool) → (a && b && c && d) ≡ true → b ≡ true
+second a true c d all = refl
+second true false c d all = absurd (let z : false ≡ true = all in cc)
+second false false c d all = absurd (let z : false ≡ true = all in cc)
+
+below : (n m : ℕ) → ltb n m ≡ true → n < m
+below n m is = grind (arith, is, nat_tests)
 
 -- what a link comes to that was written
 goes_means : (answer : Answer) (n : ℕ) → goes_on_by (Some answer) n ≡ false → (is_gone answer ≡ true) ⊎ (536870912 < n)
@@ -246,24 +254,32 @@ module _
       abbrev pub of_near : Near H T → Place S H T
       of_near n = place s n a
 
-      shipped_if : (due : Bool) (peer : ℕ) (line : Line T) (n n' : Near H T) → is_due at line ≡ due → link_of n.dialled peer ≡ Some line → IsShippedIf hears at due peer n n' → Made false (of_near n) (of_near n')
-      shipped_if true peer line n n' due found is =
+      for_peer : (is : Channel T → Type 0) (peer : ℕ) (line : Line T) (n : Near H T) → link_of n.dialled peer ≡ Some line → is (of_line line) → (name : Watched) → Holds (is_same (watched.Peer peer) name) is (channel_at name (of_near n))
+      for_peer is peer line n found so (watched.Client other) = tt
+      for_peer is peer line n found so (watched.Link other) = tt
+      for_peer is peer line n found so (watched.Peer other) =
+          holds_at (eqb peer other) is (channel_at (watched.Peer other) (of_near n))
+          (λ agree. (of_line line, ap (λ (k : ℕ). option_map of_line (link_of n.dialled k)) (sym (eqb-true peer other agree)) ∙ ap (λ (o : Option (Line T)). option_map of_line o) found, so))
+
+      shipped_if : (due more : Bool) (peer : ℕ) (line : Line T) (n n' : Near H T) → is_due at line ≡ due → takes_more line ≡ more → link_of n.dialled peer ≡ Some line
+          → IsShippedIf hears at (if due then Some (Ship peer) else if more then Some (More peer line.sent) else None) peer n n' → Made false (of_near n) (of_near n')
+      shipped_if true more peer line n n' due takes found is =
           let call = Tells (Of_peer (peer_event at (Ship peer)) is.1.given) in
-          let tells = walked_hearing accepts watches connects reads writes finds handles hears settles setting at (peer_event at (Ship peer)) s n is.0 a is.1 refl ship_for in
+          let none : line.unsent ≡ [] = none_waits line.unsent (and_both _ _ due).0 in
+          let tells = walked_hearing accepts watches connects reads writes finds handles hears settles setting at (peer_event at (Ship peer)) s n is.0 a is.1 refl (for_peer (λ (x : Channel T). x.waits ≡ []) peer line n found none) in
           let last = still accepts watches connects reads writes finds handles hears settles setting at (of_near is.0) (of_near n') refl is.2.handler (marked_still s is.0 n' peer is.2) in
           made (call ∷ []) (of_near n) (of_near n') (goes (call ∷ []) [] (of_near n) (of_near is.0) (of_near n') tells last) refl refl refl
-        where
-          ship_for : (name : Watched) → Holds (is_same (watched.Peer peer) name) (λ (x : Channel T). x.waits ≡ []) (channel_at name (of_near n))
-          ship_for (watched.Client other) = tt
-          ship_for (watched.Link other) = tt
-          ship_for (watched.Peer other) =
-              holds_at (eqb peer other) (λ (x : Channel T). x.waits ≡ []) (channel_at (watched.Peer other) (of_near n))
-              (λ agree. (of_line line, ap (λ (k : ℕ). option_map of_line (link_of n.dialled k)) (sym (eqb-true peer other agree)) ∙ ap (λ (o : Option (Line T)). option_map of_line o) found, none_waits line.unsent (and_both _ _ due).0))
-      shipped_if false peer line n n' due found same = made_none false (of_near n) (of_near n') (ap of_near same)
+      shipped_if false true peer line n n' due takes found is =
+          let call = Tells (Of_peer (peer_event at (More peer line.sent)) is.1.given) in
+          let few : length line.unsent < 65536 = below (length line.unsent) 65536 (second (is_some line.asked) (ltb (length line.unsent) 65536) (not line.awaited) (ltb (line.sent - line.got) 16384) takes) in
+          let tells = walked_hearing accepts watches connects reads writes finds handles hears settles setting at (peer_event at (More peer line.sent)) s n is.0 a is.1 refl (for_peer (λ (x : Channel T). length x.waits < 65536) peer line n found few) in
+          let last = still accepts watches connects reads writes finds handles hears settles setting at (of_near is.0) (of_near n') refl is.2.handler (marked_still s is.0 n' peer is.2) in
+          made (call ∷ []) (of_near n) (of_near n') (goes (call ∷ []) [] (of_near n) (of_near is.0) (of_near n') tells last) refl refl refl
+      shipped_if false false peer line n n' due takes found same = made_none false (of_near n) (of_near n') (ap of_near same)
 
       pub shipped_in : (o : Option (Line T)) (peer : ℕ) (n n' : Near H T) → link_of n.dialled peer ≡ o → IsShipped hears at o peer n n' → Made false (of_near n) (of_near n')
       shipped_in None peer n n' found same = made_none false (of_near n) (of_near n') (ap of_near same)
-      shipped_in (Some line) peer n n' found is = shipped_if (is_due at line) peer line n n' refl found is
+      shipped_in (Some line) peer n n' found is = shipped_if (is_due at line) (takes_more line) peer line n n' refl refl found is
 
     -- ---- links that are written
 

@@ -6,7 +6,7 @@ use Rattle.home_table.specs.Table.{Table}
 use Rattle.node_keeper.specs.declared.batch.BatchKeeper.{BatchKeeper}
 use Rattle.node_keeper.specs.BatchViews.{node_in, rows_in}
 use Rattle.node_keeper.specs.Keeping.{HoldsWhatLasts, marked_or_raised}
-use Rattle.table_versions.specs.Newest.{newest_of}
+use Rattle.replica_store.specs.Newest.{newest_of}
 use Rattle.node_work.specs.View.{HeldView, NodeView, Place, place_of}
 use Rattle.row_store.specs.Rows.{Content}
 use Rattle.law_serving.specs.Settling.{served_site}

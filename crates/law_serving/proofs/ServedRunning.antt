@@ -51,6 +51,7 @@ known_later sent more (kinds.Closed c) h = tt
 known_later sent more (kinds.Frame bytes) h = (h.0, h.1, get_left sent more h.0 h.1 h.2, h.3)
 known_later sent more (kinds.Linked peer) h = tt
 known_later sent more (kinds.Ship peer) h = tt
+known_later sent more (kinds.More peer after) h = tt
 known_later sent more kinds.Tick h = tt
 known_later sent more (kinds.Evict client) h = tt
 known_later sent more (kinds.Table homes) h = tt

@@ -155,6 +155,7 @@ peers_bring : (kind : PeerEventKind) → may_move true (peer_kind_of kind) ≡ f
 peers_bring (peers.Linked peer) = refl
 peers_bring (peers.Frame bytes) = refl
 peers_bring (peers.Ship peer) = refl
+peers_bring (peers.More peer after) = refl
 
 module _ {R : Type 0} (handles : ServedNode R → Told → List Handed → ServedNode R → Type 0) (hears : ServedNode R → PeerEvent → Given → ServedNode R → Type 0)
     (settles : ServedNode R → ServedNode R → Type 0) (takes : ServedNode R → ℕ → Table → List Handed → ServedNode R → Type 0)

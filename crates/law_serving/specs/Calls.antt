@@ -5,7 +5,7 @@ use Rattle.std.specs.declared.net.socket_addr.SocketAddr.{SocketAddr}
 use Rattle.broker_sockets.specs.declared.bridge.Given.{Given}
 use Rattle.broker_sockets.specs.declared.bridge.PeerEvent.{PeerEvent}
 use Rattle.broker_sockets.specs.declared.bridge.PeerEventKind.{PeerEventKind}
-use Rattle.broker_sockets.specs.declared.bridge.PeerEventKind.TheVariants.{Linked, Frame, Ship}
+use Rattle.broker_sockets.specs.declared.bridge.PeerEventKind.TheVariants.{Linked, Frame, More, Ship}
 use Rattle.broker_sockets.specs.declared.events.Event.{Event}
 use Rattle.broker_sockets.specs.declared.events.EventKind.{EventKind}
 use Rattle.broker_sockets.specs.declared.events.EventKind.TheVariants.{Started, Opened, Piece, Room, Closed, Tick}
@@ -166,6 +166,7 @@ abbrev pub news_of_peer : (T : Type 0) → PeerEventKind → List (News T)
 news_of_peer T (Linked peer) = Is_linked peer ∷ []
 news_of_peer T (Frame bytes) = Is_framed bytes.items ∷ []
 news_of_peer T (Ship peer) = []
+news_of_peer T (More peer after) = []
 
 abbrev pub news_in : (T : Type 0) → Told → List (News T)
 news_in T (Of_client e outputs) = news_of_client T e.kind

@@ -5,7 +5,7 @@ use Rattle.std.specs.declared.alloc.Global.{Global}
 use Rattle.slab.specs.Slab.{get}
 use Rattle.broker_sockets.specs.Answers.{IsWithin, left_after}
 use Rattle.broker_sockets.specs.declared.bridge.PeerEventKind.{PeerEventKind}
-use Rattle.broker_sockets.specs.declared.bridge.PeerEventKind.TheVariants.{Ship}
+use Rattle.broker_sockets.specs.declared.bridge.PeerEventKind.TheVariants.{More, Ship}
 use Rattle.broker_sockets.specs.declared.bridge.PeerFrame.{PeerFrame}
 use Rattle.broker_sockets.specs.declared.events.EventKind.{EventKind}
 use Rattle.broker_sockets.specs.declared.events.EventKind.TheVariants.{Room}
@@ -147,13 +147,15 @@ module _ {T : Type 0} where
   Holds true is (Some x) = is x
   Holds false is o = Unit {0}
 
-  -- the handler is told how much a connection takes that takes more, and asked for more for a peer for which nothing waits
+  -- the handler is told how much a connection takes that takes more, and asked for all that a peer may lack where nothing waits for it, and for more
+  -- than was given where fewer than 65,536 bytes do
   abbrev pub IsForClient : Watched → EventKind → Option (Channel T) → Type 0
   IsForClient name (Room key bytes) o = Holds (is_same (watched.Client key) name) (TakesMore bytes) o
   IsForClient name _ o = Unit {0}
 
   abbrev pub IsForPeer : Watched → PeerEventKind → Option (Channel T) → Type 0
   IsForPeer name (Ship peer) o = Holds (is_same (watched.Peer peer) name) (λ x. x.waits ≡ []) o
+  IsForPeer name (More peer after) o = Holds (is_same (watched.Peer peer) name) (λ x. length x.waits < 65536) o
   IsForPeer name _ o = Unit {0}
 
   abbrev pub IsFor : Watched → Told → Option (Channel T) → Type 0

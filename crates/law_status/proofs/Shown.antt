@@ -66,6 +66,7 @@ pub record IsShown (w : World) (i : ℕ) (figures : Figures) (shows : Shows w i 
   pub lacks : peer.lacking ≡ lacking_by shows.held.store.taken (known_of shows.held.bridge peer.number)
   pub misses : peer.missing ≡ missing_by shows.held.store.taken (known_of shows.held.bridge peer.number)
   pub waits : peer.waiting ≡ waiting_of shows.held peer.number
+  pub room : peer.room ≡ 65536
 
 shown : (w : World) (i : ℕ) (figures : Figures) (shows : Shows w i figures) (peer : Peer) → Contains figures.peers.items peer → IsShown w i figures shows peer
 shown w i figures shows peer among =
@@ -84,6 +85,7 @@ shown w i figures shows peer among =
       lacks = ap (λ (s : Seen). s.lacking) is ∙ ap (λ n. lacking_by shows.held.store.taken (known_of shows.held.bridge n)) number;
       misses = ap (λ (s : Seen). s.missing) is ∙ ap (λ n. missing_by shows.held.store.taken (known_of shows.held.bridge n)) number;
       waits = ap (λ (s : Seen). s.waiting) is ∙ ap (λ n. waiting_of shows.held n) number;
+      room = ap (λ (s : Seen). s.room) is;
     }
 
 pub equal_has_all : EqualIsSo
@@ -112,8 +114,8 @@ peers_agree figures all =
     both_right (not (is_short figures.usage)) (all_agree figures) rest
 
 -- a peer that has room is shown with fewer messages than may wait
-room_left : (peer : Peer) (n : ℕ) → peer.waiting ≡ n → has_room peer ≡ true → n < 65536
-room_left peer n is room = subst (λ k. k < 65536) is (grind (arith, nat_tests))
+room_left : (peer : Peer) (n : ℕ) → peer.waiting ≡ n → peer.room ≡ 65536 → has_room peer ≡ true → n < 65536
+room_left peer n is most room = let fewer : peer.waiting < peer.room = grind (arith, nat_tests) in omega arith
 
 pub caught_up_has_all : CaughtUpIsSo
 caught_up_has_all run w r i figures shows all peer among =
@@ -125,7 +127,8 @@ caught_up_has_all run w r i figures shows all peer among =
       heard = both_left peer.heard (peer.lacking == 0 && peer.missing == 0) equal;
       all = equal_has_all run w r i figures shows peer among equal;
       no_more = equal_has_no_more w i figures shows peer among equal;
-      room = room_left peer (length (lane_to shows.held.bridge peer.number).waiting) (shown w i figures shows peer among).waits (both_right (is_equal peer) (has_room peer) well);
+      room = room_left peer (length (lane_to shows.held.bridge peer.number).waiting) (shown w i figures shows peer among).waits (shown w i figures shows peer among).room
+          (both_right (is_equal peer) (has_room peer) well);
     }
 
 pub both_agree : BothEqualAgree

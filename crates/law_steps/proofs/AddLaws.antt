@@ -288,6 +288,7 @@ may_any (kinds.Closed n) p h = tt
 may_any (kinds.Frame bytes) p h = tt
 may_any (kinds.Linked peer) p h = tt
 may_any (kinds.Ship peer) p h = tt
+may_any (kinds.More peer after) p h = tt
 may_any kinds.Tick p h = tt
 may_any (kinds.Evict client) p h = tt
 

@@ -235,6 +235,7 @@ module _ (p : Place) (here : p.id < nodes_of p) where
   answers_kind (kinds.Frame bytes) = b_still (turns.AnswersEvent (kinds.Frame bytes)) (still.hears bytes)
   answers_kind (kinds.Linked peer) = b_still (turns.AnswersEvent (kinds.Linked peer)) (still.greets peer)
   answers_kind (kinds.Ship peer) = b_still (turns.AnswersEvent (kinds.Ship peer)) (still.ships peer)
+  answers_kind (kinds.More peer after) = b_still (turns.AnswersEvent (kinds.More peer after)) (still.ships_more peer after)
   answers_kind kinds.Tick = b_returns tt
   answers_kind (kinds.Evict client) = b_still (turns.Evicts client) (still.evicts client)
   answers_kind (kinds.Table homes) = takes_table homes
@@ -251,6 +252,7 @@ module _ (p : Place) (here : p.id < nodes_of p) where
   goes_on (kinds.Frame bytes) = after_due (kinds.Frame bytes)
   goes_on (kinds.Linked peer) = after_due (kinds.Linked peer)
   goes_on (kinds.Ship peer) = after_due (kinds.Ship peer)
+  goes_on (kinds.More peer after) = after_due (kinds.More peer after)
   goes_on kinds.Tick = after_due kinds.Tick
   goes_on (kinds.Evict client) = after_due (kinds.Evict client)
   goes_on (kinds.Table homes) = after_due (kinds.Table homes)
@@ -264,6 +266,7 @@ module _ (p : Place) (here : p.id < nodes_of p) where
   first_turn (kinds.Frame bytes) = b_returns tt
   first_turn (kinds.Linked peer) = b_returns tt
   first_turn (kinds.Ship peer) = b_returns tt
+  first_turn (kinds.More peer after) = b_returns tt
   first_turn kinds.Tick = b_returns tt
   first_turn (kinds.Evict client) = b_returns tt
   first_turn (kinds.Table homes) = b_returns tt

@@ -1,6 +1,7 @@
 -- What holds of frames that come and go, by what holds of their parts.
 use Rattle.std.proofs.Common.{ℕ, List, Option, Some, None}
 use Rattle.bridge_deltas.specs.Lane.{first_frames}
+use Rattle.bridge_deltas.specs.More.{frames_after}
 use Rattle.bridge_frames.specs.declared.body.FrameBody.{FrameBody}
 use Rattle.bridge_frames.specs.declared.body.FrameBody.TheVariants.{Hello, Delta, Know, Forward as Carried, Got}
 use Rattle.bridge_frames.specs.declared.forward.Forward.{Forward}
@@ -55,6 +56,13 @@ module _ (K : (A : Type 0) → (Option A → Doing) → Type 0) (w : Low K) (b :
       (λ other. w.by_test other (bridge.ShipsTo peer) (Returns tt)
       (w.join (bridge.ShipsState peer) (λ _. bridge.ShipsMessages peer) (w.finds (bridge.AreShipped peer) (bridge.GivesState peer) (gives_state peer))
       (λ _. w.looks (λ p h. first_frames p.id peer (lane_to h.bridge peer)) (Each GivesFrame) (λ fs. each K w GivesFrame fs gives_frame))) (w.returns tt))
+
+  pub ships_more : (peer after : ℕ) → Does (bridge.ShipsMore peer after)
+  ships_more peer after =
+      w.looks (λ p h. is_other p peer) (λ other. If other (bridge.ShipsMoreTo peer after) (Returns tt))
+      (λ other. w.by_test other (bridge.ShipsMoreTo peer after) (Returns tt)
+      (w.join (bridge.ShipsState peer) (λ _. bridge.ShipsLater peer after) (w.finds (bridge.AreShipped peer) (bridge.GivesState peer) (gives_state peer))
+      (λ _. w.looks (λ p h. frames_after p.id peer after (lane_to h.bridge peer)) (Each GivesFrame) (λ fs. each K w GivesFrame fs gives_frame))) (w.returns tt))
 
   takes_forward : (from number : ℕ) (m : Forward) → Does (passing.TakesForward from number m)
   takes_forward from number m =

@@ -1,6 +1,7 @@
 -- Where something comes of other nodes, nothing else is done.
 use Rattle.std.proofs.Common.{◌≡◌, inl, inr, ℕ, Bool, true, false, cond, List, [], ◌∷◌, ◌++◌, Option, Some, None, refl, sym, ap, ◌∙◌, subst}
 use Rattle.bridge_deltas.specs.Lane.{first_frames}
+use Rattle.bridge_deltas.specs.More.{frames_after}
 use Rattle.bridge_frames.specs.declared.body.FrameBody.{FrameBody}
 use Rattle.bridge_frames.specs.declared.body.FrameBody.TheVariants.{Hello, Delta, Know, Forward, Got}
 use Rattle.bridge_frames.specs.declared.forward.Forward.{Forward as Message}
@@ -25,7 +26,7 @@ use Rattle.law_runs.proofs.Passing.{HaveAll, each_queued, have_both, have_seated
 use Rattle.law_runs.proofs.Splits.{left_by}
 use Rattle.law_steps.specs.Frames.{deltas_to, frame_to}
 use Rattle.law_steps.proofs.Giving.{gives_one}
-use Rattle.law_steps.specs.Bridging.{FrameAlone, GreetsAlone, HearsAlone, IsSentTo, ShipsAlone, TakesOfLane, all_out, gives_out}
+use Rattle.law_steps.specs.Bridging.{FrameAlone, GreetsAlone, HearsAlone, IsSentMore, IsSentTo, MoreAlone, ShipsAlone, TakesOfLane, all_out, gives_out}
 
 -- ---- frames that go out
 gave_by : (small : Bool) (f : BridgeFrame) (x : Unit {0}) (p : Place) (h : HeldView) (acts : List Act) → If small (Acting (λ p h. Bridge (Gave f))) (Misses FrameTooLarge) (Some x) p h acts → acts ≡ cond small (Bridge (Gave f)) (Bridge (Left_out FrameTooLarge)) ∷ []
@@ -67,6 +68,18 @@ shipped_if false peer x p h acts d = d.1
 
 pub shipped : (peer : ℕ) (x : Unit {0}) (p : Place) (h : HeldView) (acts : List Act) → bridge.Ships peer (Some x) p h acts → ShipsAlone p h peer acts
 shipped peer x p h acts d = shipped_if (is_other p peer) peer x p h acts d
+
+more_if : (other : Bool) (peer after : ℕ) (x : Unit {0}) (p : Place) (h : HeldView) (acts : List Act) → If other (bridge.ShipsMoreTo peer after) (Returns tt) (Some x) p h acts → cond other (IsSentMore p h peer after acts) (acts ≡ [])
+more_if true peer after x p h acts (inl d) = none_some (sym d.0)
+more_if true peer after x p h acts (inr (y, own, mid, rest, (s, to_ship, one), ran, more, is)) =
+    let first = state_out s peer y p h mid own one ran in
+    let frames : BridgeView → List BridgeFrame = λ b. frames_after p.id peer after (lane_to b peer) in
+    let second : rest ≡ all_out (frames mid.bridge) = each_out (frames mid.bridge) x p mid rest more in
+    (s, to_ship, is ∙ (λ i. first.0 i ++ second i) ∙ ap (λ (b : BridgeView). all_out (deltas_to p peer s) ++ all_out (frames b)) first.1 ∙ out_both (deltas_to p peer s) (frames h.bridge))
+more_if false peer after x p h acts d = d.1
+
+pub shipped_more : (peer after : ℕ) (x : Unit {0}) (p : Place) (h : HeldView) (acts : List Act) → bridge.ShipsMore peer after (Some x) p h acts → MoreAlone p h peer after acts
+shipped_more peer after x p h acts d = more_if (is_other p peer) peer after x p h acts d
 
 -- ---- a message of a lane
 have_handed : (h : HeldView) (m : Message) (copies : List Copy) (lost : ℕ) → IsHanded h m copies lost → HaveAll h copies

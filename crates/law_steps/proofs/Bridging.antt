@@ -1,6 +1,7 @@
 -- What comes of other nodes is determined.
 use Rattle.std.proofs.Common.{◌≡◌, ℕ, Bool, true, false, cond, List, [], ◌∷◌, ◌++◌, Option, Some, None, sym, ap, ◌∙◌, subst}
 use Rattle.bridge_deltas.specs.Lane.{first_frames}
+use Rattle.bridge_deltas.specs.More.{frames_after}
 use Rattle.bridge_frames.specs.declared.body.FrameBody.{FrameBody}
 use Rattle.bridge_frames.specs.declared.body.FrameBody.TheVariants.{Hello, Delta, Know, Forward, Got}
 use Rattle.bridge_frames.specs.declared.forward.Forward.{Forward as Message}
@@ -18,7 +19,7 @@ use Rattle.node_work.specs.View.{Place, HeldView}
 use Rattle.node_clients.proofs.Determined.{handed_alone, runs_determined}
 use Rattle.law_runs.specs.StepPublishing.{CopiesAreQueued}
 use Rattle.law_steps.specs.Frames.{deltas_to}
-use Rattle.law_steps.specs.Bridging.{FrameAlone, HearsAlone, IsBrought, IsSentTo, ShipsAlone, TakesOfLane, all_out, answered}
+use Rattle.law_steps.specs.Bridging.{FrameAlone, HearsAlone, IsBrought, IsSentMore, IsSentTo, MoreAlone, ShipsAlone, TakesOfLane, all_out, answered}
 use Rattle.law_steps.proofs.Calls.{after_head, two_heads, two_parts}
 use Rattle.law_steps.proofs.Passing.{queued_fixed}
 
@@ -30,6 +31,14 @@ shipped_fixed false p h peer xs ys x y = x ∙ sym y
 
 pub ships_fixed : (p : Place) (h : HeldView) (peer : ℕ) (xs ys : List Act) → ShipsAlone p h peer xs → ShipsAlone p h peer ys → xs ≡ ys
 ships_fixed p h peer xs ys x y = shipped_fixed (is_other p peer) p h peer xs ys x y
+
+sent_fixed : (other : Bool) (p : Place) (h : HeldView) (peer after : ℕ) (xs ys : List Act) → cond other (IsSentMore p h peer after xs) (xs ≡ []) → cond other (IsSentMore p h peer after ys) (ys ≡ []) → xs ≡ ys
+sent_fixed true p h peer after xs ys x y =
+    x.2 ∙ ap (λ (s : Option State). all_out (deltas_to p peer s ++ frames_after p.id peer after (lane_to h.bridge peer))) (to_ship_one peer h.bridge h.store x.0 y.0 x.1 y.1) ∙ sym y.2
+sent_fixed false p h peer after xs ys x y = x ∙ sym y
+
+pub more_fixed : (p : Place) (h : HeldView) (peer after : ℕ) (xs ys : List Act) → MoreAlone p h peer after xs → MoreAlone p h peer after ys → xs ≡ ys
+more_fixed p h peer after xs ys x y = sent_fixed (is_other p peer) p h peer after xs ys x y
 
 -- ---- a frame that comes
 module _ (p : Place) (h m n : HeldView) (xs ys : List Act) (sound : IsTable h.homes) (r : Runs p h xs m) (s : Runs p h ys n) where

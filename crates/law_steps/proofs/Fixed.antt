@@ -15,7 +15,7 @@ use Rattle.broker_node.specs.declared.event.EventKind.TheVariants as kinds
 use Rattle.law_runs.specs.ConnectionRooms.{CallsWithRoom, IsToldOf}
 use Rattle.law_steps.specs.Determining.{ComesTo, GoesBy, KeepsLaws, AreOne, LawsDetermine}
 use Rattle.law_steps.specs.Ending.{LeavesFrom}
-use Rattle.law_steps.proofs.Bridging.{frame_fixed, ships_fixed}
+use Rattle.law_steps.proofs.Bridging.{frame_fixed, more_fixed, ships_fixed}
 use Rattle.law_steps.proofs.Calls.{IsKnown, after_head, same_call, two_heads, two_parts}
 use Rattle.law_steps.proofs.EndingLaws.{due_fixed, leaves_fixed}
 use Rattle.law_steps.proofs.Moving.{starts_fixed, table_fixed}
@@ -58,6 +58,7 @@ comes_fixed kinds.Started p h last last' xs ys sound r s x y = x ∙ sym y
 comes_fixed (kinds.Frame bytes) p h last last' xs ys sound r s x y = frame_fixed (frame_in bytes) p h last last' xs ys sound r s x y
 comes_fixed (kinds.Linked peer) p h last last' xs ys sound r s x y = x ∙ sym y
 comes_fixed (kinds.Ship peer) p h last last' xs ys sound r s x y = ships_fixed p h peer xs ys x y
+comes_fixed (kinds.More peer after) p h last last' xs ys sound r s x y = more_fixed p h peer after xs ys x y
 comes_fixed (kinds.Table homes) p h last last' xs ys sound r s x y = table_fixed homes p h last last' xs ys r s x y
 
 -- ---- after what is due
@@ -92,6 +93,7 @@ module _ (e : Event) (p : Place) (h last last' : HeldView) (acts acts' : List Ac
   same_by (kinds.Frame bytes) is = at_another h.started refl (λ q. (let z : kinds.Frame bytes ≡ kinds.Started = sym is ∙ q in cc))
   same_by (kinds.Linked peer) is = at_another h.started refl (λ q. (let z : kinds.Linked peer ≡ kinds.Started = sym is ∙ q in cc))
   same_by (kinds.Ship peer) is = at_another h.started refl (λ q. (let z : kinds.Ship peer ≡ kinds.Started = sym is ∙ q in cc))
+  same_by (kinds.More peer after) is = at_another h.started refl (λ q. (let z : kinds.More peer after ≡ kinds.Started = sym is ∙ q in cc))
   same_by kinds.Tick is = at_another h.started refl (λ q. (let z : kinds.Tick ≡ kinds.Started = sym is ∙ q in cc))
   same_by (kinds.Evict client) is = at_another h.started refl (λ q. (let z : kinds.Evict client ≡ kinds.Started = sym is ∙ q in cc))
   same_by (kinds.Table homes) is = at_another h.started refl (λ q. (let z : kinds.Table homes ≡ kinds.Started = sym is ∙ q in cc))

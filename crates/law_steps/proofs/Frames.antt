@@ -1,6 +1,7 @@
 -- The frames of each event.
 use Rattle.std.proofs.Common.{◌≡◌, inl, inr, ℕ, Bool, true, false, cond, List, [], ◌∷◌, ◌++◌, map as map_list, Option, Some, None, refl, sym, ap, ◌∙◌, subst}
 use Rattle.bridge_deltas.specs.Lane.{first_frames}
+use Rattle.bridge_deltas.specs.More.{frames_after}
 use Rattle.bridge_frames.specs.declared.body.FrameBody.{FrameBody}
 use Rattle.bridge_frames.specs.declared.body.FrameBody.TheVariants.{Hello, Delta, Know, Forward as Carried, Got}
 use Rattle.bridge_frames.specs.declared.frame.BridgeFrame.{BridgeFrame}
@@ -22,7 +23,7 @@ use Rattle.broker_node.specs.Bridge as bridge
 use Rattle.broker_node.specs.Turns.{AnswersEvent, Decides}
 use Rattle.law_runs.proofs.Keeping.{none_some}
 use Rattle.law_runs.proofs.Splits.{runs_split}
-use Rattle.law_steps.specs.Frames.{given_in, frames_given, frame_to, those_small, deltas_to, ShippedFrames, answer_to, answers_to, AreOfEvent, GivesFrames, FramesAreOfEvents}
+use Rattle.law_steps.specs.Frames.{given_in, frames_given, frame_to, those_small, deltas_to, ShippedFrames, MoreFrames, answer_to, answers_to, AreOfEvent, GivesFrames, FramesAreOfEvents}
 use Rattle.law_steps.proofs.Giving.{gives_one, small_both, each_given}
 use Rattle.law_steps.proofs.Silent.{answering_of, silent_before, silent_of, none_given}
 use Rattle.law_steps.proofs.TakingLaws.{takes_next, gives_none}
@@ -43,6 +44,18 @@ ships_to peer x p h acts (inr (y, own, mid, rest, (s, ships, one), runs, more, i
 ships_by : (other : Bool) (peer : ℕ) (p : Place) (h : HeldView) (acts : List Act) → If other (bridge.ShipsTo peer) (Returns tt) (Some tt) p h acts → cond other (ShippedFrames p h peer (frames_given acts)) (frames_given acts ≡ [])
 ships_by true peer p h acts d = ships_to peer tt p h acts d
 ships_by false peer p h acts d = ap frames_given d.1
+
+more_to : (peer after : ℕ) (x : Unit {0}) (p : Place) (h : HeldView) (acts : List Act) → bridge.ShipsMoreTo peer after (Some x) p h acts → MoreFrames p h peer after (frames_given acts)
+more_to peer after x p h acts (inl d) = none_some (sym d.0)
+more_to peer after x p h acts (inr (y, own, mid, rest, (s, ships, one), runs, more, is)) =
+    let first = shipped_then s peer y p h mid own one runs in
+    let others : frames_given rest ≡ those_small (frames_after p.id peer after (lane_to h.bridge peer)) =
+    each_given (frames_after p.id peer after (lane_to mid.bridge peer)) x p mid rest more ∙ ap (λ b. those_small (frames_after p.id peer after (lane_to b peer))) first.1 in
+    (s, ships, ap frames_given is ∙ gather-append given_in own rest ∙ (λ i. first.0 i ++ others i) ∙ sym (small_both (deltas_to p peer s) (frames_after p.id peer after (lane_to h.bridge peer))))
+
+more_by : (other : Bool) (peer after : ℕ) (p : Place) (h : HeldView) (acts : List Act) → If other (bridge.ShipsMoreTo peer after) (Returns tt) (Some tt) p h acts → cond other (MoreFrames p h peer after (frames_given acts)) (frames_given acts ≡ [])
+more_by true peer after p h acts d = more_to peer after tt p h acts d
+more_by false peer after p h acts d = ap frames_given d.1
 
 greets_by : (other : Bool) (peer : ℕ) (p : Place) (h last : HeldView) (acts : List Act) → If other (GivesBody peer (λ h. Hello)) (Returns tt) (Some tt) p h acts → Runs p h acts last → frames_given acts ≡ cond other (those_small (frame_to p peer Hello ∷ [])) []
 greets_by true peer p h last acts d runs = (gives_one (frame_to p peer Hello) tt p h last acts d runs).frames
@@ -81,6 +94,7 @@ of_event : (kind : EventKind) (p : Place) (h last : HeldView) (acts : List Act) 
 of_event (kinds.Frame bytes) p h last acts d runs = hears (frame_in bytes) p h last acts d runs
 of_event (kinds.Linked peer) p h last acts d runs = greets_by (is_other p peer) peer p h last acts d runs
 of_event (kinds.Ship peer) p h last acts d runs = ships_by (is_other p peer) peer p h acts d
+of_event (kinds.More peer after) p h last acts d runs = more_by (is_other p peer) peer after p h acts d
 of_event kind p h last acts d runs = none_given acts (silent_of kind p h acts tt d)
 
 by_started : (e : Event) (p : Place) (h last : HeldView) (acts : List Act) (b : Bool) → h.started ≡ b → Decides e (Some tt) p h acts → Runs p h acts last → GivesFrames p h last e acts

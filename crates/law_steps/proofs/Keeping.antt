@@ -30,7 +30,7 @@ use Rattle.law_steps.proofs.DueLaws.{all_wait_for_start, starts_come_once}
 use Rattle.law_steps.proofs.Turning.{after_start, turned}
 use Rattle.law_steps.specs.Determining.{ComesTo, GoesBy, KeepsLaws, StepsKeepLaws}
 use Rattle.law_steps.specs.Ending.{LeavesFrom}
-use Rattle.law_steps.proofs.Bridged.{frame_heard, greeted, shipped}
+use Rattle.law_steps.proofs.Bridged.{frame_heard, greeted, shipped, shipped_more}
 use Rattle.law_steps.proofs.Ended.{all_due, leaves_alone}
 use Rattle.law_steps.proofs.Moved.{starts_alone, table_taken}
 use Rattle.law_steps.proofs.Pieced.{bytes_by}
@@ -85,6 +85,7 @@ comes_to kinds.Started p h acts d = d.1
 comes_to (kinds.Frame bytes) p h acts d = frame_heard (frame_in bytes) tt p h acts d
 comes_to (kinds.Linked peer) p h acts d = greeted peer tt p h acts d
 comes_to (kinds.Ship peer) p h acts d = shipped peer tt p h acts d
+comes_to (kinds.More peer after) p h acts d = shipped_more peer after tt p h acts d
 comes_to (kinds.Table homes) p h acts d = table_taken homes tt p h acts d
 
 -- ---- the step

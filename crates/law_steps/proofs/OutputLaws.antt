@@ -33,7 +33,7 @@ use Rattle.law_runs.proofs.Splits.{left_by}
 use Rattle.law_steps.specs.Outputs.{Occasion, SessionsAreOnTheirs, MaySendAway, WhyClosed}
 use Rattle.law_steps.proofs.Alone.{K, acting, calling, low, ticks_of}
 use Rattle.law_steps.proofs.Below.{each, evicts}
-use Rattle.law_steps.proofs.Between.{Mid, greets, hears, ships}
+use Rattle.law_steps.proofs.Between.{Mid, greets, hears, ships, ships_more}
 use Rattle.law_steps.proofs.ClosingLaws.{AreOnBut, Done, calm_done, closed_but, closes_right, done_then, ended_by, leaves_bare, leaves_for, leaves_right, nothing_done, open_with, reacted, second_runs}
 use Rattle.law_steps.proofs.Dues.{IsSeated, ClientsApart, dues_seated, dues_apart}
 use Rattle.law_steps.proofs.Fewer.{Fewer, due_fewer, fewer_then}
@@ -245,6 +245,7 @@ module _ (was : HeldView) where
   answers_right (kinds.Frame bytes) pre x p h h' acts fewer on d runs = by_calm _ (hears (K IsCalm calm_kind) (low IsCalm calm_kind) mid_calm bytes) (at_kind (kinds.Frame bytes)) pre x p h h' acts on d runs
   answers_right (kinds.Linked peer) pre x p h h' acts fewer on d runs = by_calm _ (greets (K IsCalm calm_kind) (low IsCalm calm_kind) mid_calm peer) (at_kind (kinds.Linked peer)) pre x p h h' acts on d runs
   answers_right (kinds.Ship peer) pre x p h h' acts fewer on d runs = by_calm _ (ships (K IsCalm calm_kind) (low IsCalm calm_kind) mid_calm peer) (at_kind (kinds.Ship peer)) pre x p h h' acts on d runs
+  answers_right (kinds.More peer after) pre x p h h' acts fewer on d runs = by_calm _ (ships_more (K IsCalm calm_kind) (low IsCalm calm_kind) mid_calm peer after) (at_kind (kinds.More peer after)) pre x p h h' acts on d runs
   answers_right kinds.Tick pre x p h h' acts fewer on d runs = nothing_done (at_kind kinds.Tick) pre p h h' acts d.1 on runs
   answers_right (kinds.Evict client) pre x p h h' acts fewer on d runs = by_calm _ (evicts (K IsCalm calm_kind) (low IsCalm calm_kind) client) (at_kind (kinds.Evict client)) pre x p h h' acts on d runs
   answers_right (kinds.Table homes) pre x p h h' acts fewer on d runs = takes_table (at_kind (kinds.Table homes)) tt homes pre x p h h' acts on d runs
@@ -265,6 +266,7 @@ module _ (was : HeldView) where
   goes_right (kinds.Frame bytes) pre x p h h' acts fewer on d runs = after_due (kinds.Frame bytes) pre x p h h' acts fewer on d runs
   goes_right (kinds.Linked peer) pre x p h h' acts fewer on d runs = after_due (kinds.Linked peer) pre x p h h' acts fewer on d runs
   goes_right (kinds.Ship peer) pre x p h h' acts fewer on d runs = after_due (kinds.Ship peer) pre x p h h' acts fewer on d runs
+  goes_right (kinds.More peer after) pre x p h h' acts fewer on d runs = after_due (kinds.More peer after) pre x p h h' acts fewer on d runs
   goes_right kinds.Tick pre x p h h' acts fewer on d runs = after_due kinds.Tick pre x p h h' acts fewer on d runs
   goes_right (kinds.Evict client) pre x p h h' acts fewer on d runs = after_due (kinds.Evict client) pre x p h h' acts fewer on d runs
   goes_right (kinds.Table homes) pre x p h h' acts fewer on d runs = after_due (kinds.Table homes) pre x p h h' acts fewer on d runs
@@ -278,6 +280,7 @@ module _ (was : HeldView) where
   first_right (kinds.Frame bytes) pre x p h h' acts on d runs = nothing_done (at_kind (kinds.Frame bytes)) pre p h h' acts d.1 on runs
   first_right (kinds.Linked peer) pre x p h h' acts on d runs = nothing_done (at_kind (kinds.Linked peer)) pre p h h' acts d.1 on runs
   first_right (kinds.Ship peer) pre x p h h' acts on d runs = nothing_done (at_kind (kinds.Ship peer)) pre p h h' acts d.1 on runs
+  first_right (kinds.More peer after) pre x p h h' acts on d runs = nothing_done (at_kind (kinds.More peer after)) pre p h h' acts d.1 on runs
   first_right kinds.Tick pre x p h h' acts on d runs = nothing_done (at_kind kinds.Tick) pre p h h' acts d.1 on runs
   first_right (kinds.Evict client) pre x p h h' acts on d runs = nothing_done (at_kind (kinds.Evict client)) pre p h h' acts d.1 on runs
   first_right (kinds.Table homes) pre x p h h' acts on d runs = nothing_done (at_kind (kinds.Table homes)) pre p h h' acts d.1 on runs

@@ -44,6 +44,7 @@ module _ (e : Event) (p : Place) (h : HeldView) (acts : List Act) where
   may_by (kinds.Frame bytes) is first = tt
   may_by (kinds.Linked peer) is first = tt
   may_by (kinds.Ship peer) is first = tt
+  may_by (kinds.More peer after) is first = tt
   may_by kinds.Tick is first = tt
   may_by (kinds.Evict client) is first = tt
 

@@ -37,7 +37,7 @@ use Rattle.law_steps.proofs.TakenLaws.{packets_are_taken}
 use Rattle.law_steps.proofs.Turning.{came}
 use Rattle.law_steps.specs.Served.{BytesOfClient, ConnectionsAreServed, ConnectionsStayServed, PacketsOfRunsAreTaken}
 use Rattle.law_steps.proofs.Calls.{after_head}
-use Rattle.law_steps.proofs.Gentle.{IsGentle, evicts, greets, hears, misses_of, ships}
+use Rattle.law_steps.proofs.Gentle.{IsGentle, evicts, greets, hears, misses_of, ships, ships_more}
 use Rattle.law_steps.proofs.WholeLeaving.{NoneHere, away_served, due_served, starts_served}
 use Rattle.law_steps.proofs.Live.{AllServed, gently, live_in, served_gently}
 use Rattle.law_steps.proofs.Coming.{leaves_if, opens_if, piece_served, rooms_if}
@@ -62,6 +62,7 @@ answers_served (kinds.Room c bytes) x p h h' acts d runs s = rooms_if (is_open c
 answers_served (kinds.Frame bytes) x p h h' acts d runs s = (served_gently h h' (gently p acts h h' (hears bytes x p h acts d) runs) s).served
 answers_served (kinds.Linked peer) x p h h' acts d runs s = (served_gently h h' (gently p acts h h' (greets peer x p h acts d) runs) s).served
 answers_served (kinds.Ship peer) x p h h' acts d runs s = (served_gently h h' (gently p acts h h' (ships peer x p h acts d) runs) s).served
+answers_served (kinds.More peer after) x p h h' acts d runs s = (served_gently h h' (gently p acts h h' (ships_more peer after x p h acts d) runs) s).served
 answers_served kinds.Tick x p h h' acts d runs s = nothing p h h' acts d.1 runs s
 answers_served (kinds.Evict client) x p h h' acts d runs s = (served_gently h h' (gently p acts h h' (evicts client x p h acts d) runs) s).served
 answers_served (kinds.Table homes) x p h h' acts d runs s = table_if (tables.is_newer_table homes p h) homes x p h h' acts d runs s
@@ -120,6 +121,7 @@ is_start (kinds.Closed c) = inr (λ q. (let z : kinds.Closed c ≡ kinds.Started
 is_start (kinds.Frame bytes) = inr (λ q. (let z : kinds.Frame bytes ≡ kinds.Started = q in cc))
 is_start (kinds.Linked peer) = inr (λ q. (let z : kinds.Linked peer ≡ kinds.Started = q in cc))
 is_start (kinds.Ship peer) = inr (λ q. (let z : kinds.Ship peer ≡ kinds.Started = q in cc))
+is_start (kinds.More peer after) = inr (λ q. (let z : kinds.More peer after ≡ kinds.Started = q in cc))
 is_start kinds.Tick = inr (λ q. (let z : kinds.Tick ≡ kinds.Started = q in cc))
 is_start (kinds.Evict client) = inr (λ q. (let z : kinds.Evict client ≡ kinds.Started = q in cc))
 is_start (kinds.Table homes) = inr (λ q. (let z : kinds.Table homes ≡ kinds.Started = q in cc))

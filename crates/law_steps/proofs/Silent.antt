@@ -130,6 +130,7 @@ abbrev pub IsPlain : EventKind → Type 0
 IsPlain (kinds.Frame bytes) = ⊥
 IsPlain (kinds.Linked peer) = ⊥
 IsPlain (kinds.Ship peer) = ⊥
+IsPlain (kinds.More peer after) = ⊥
 IsPlain kind = Unit {0}
 
 answers_silent : (kind : EventKind) → IsPlain kind → K (Unit {0}) (turns.AnswersEvent kind)
@@ -142,6 +143,7 @@ answers_silent (kinds.Room n bytes) plain = makes_room K w high n bytes
 answers_silent (kinds.Frame bytes) plain = absurd plain
 answers_silent (kinds.Linked peer) plain = absurd plain
 answers_silent (kinds.Ship peer) plain = absurd plain
+answers_silent (kinds.More peer after) plain = absurd plain
 answers_silent kinds.Tick plain = w.returns tt
 answers_silent (kinds.Evict client) plain = evicts K w client
 answers_silent (kinds.Table homes) plain = takes_table K w high homes
@@ -155,6 +157,7 @@ first_silent (kinds.Room n bytes) = w.returns tt
 first_silent (kinds.Frame bytes) = w.returns tt
 first_silent (kinds.Linked peer) = w.returns tt
 first_silent (kinds.Ship peer) = w.returns tt
+first_silent (kinds.More peer after) = w.returns tt
 first_silent kinds.Tick = w.returns tt
 first_silent (kinds.Evict client) = w.returns tt
 first_silent (kinds.Table homes) = w.returns tt
@@ -210,6 +213,7 @@ goes (kinds.Room n bytes) x p h acts d = answering (kinds.Room n bytes) x p h ac
 goes (kinds.Frame bytes) x p h acts d = answering (kinds.Frame bytes) x p h acts d
 goes (kinds.Linked peer) x p h acts d = answering (kinds.Linked peer) x p h acts d
 goes (kinds.Ship peer) x p h acts d = answering (kinds.Ship peer) x p h acts d
+goes (kinds.More peer after) x p h acts d = answering (kinds.More peer after) x p h acts d
 goes kinds.Tick x p h acts d = answering kinds.Tick x p h acts d
 goes (kinds.Evict client) x p h acts d = answering (kinds.Evict client) x p h acts d
 goes (kinds.Table homes) x p h acts d = answering (kinds.Table homes) x p h acts d

@@ -1,6 +1,7 @@
 -- Work in which no session begins and no table is taken.
 use Rattle.std.proofs.Common.{ℕ, ◌&&◌, not, Bool, true, false, cond, List, [], Option, Some, None}
 use Rattle.bridge_deltas.specs.Lane.{first_frames}
+use Rattle.bridge_deltas.specs.More.{frames_after}
 use Rattle.bridge_frames.specs.declared.body.FrameBody.{FrameBody}
 use Rattle.bridge_frames.specs.declared.body.FrameBody.TheVariants.{Hello, Delta, Know, Forward as Carried, Got}
 use Rattle.bridge_frames.specs.declared.forward.Forward.{Forward}
@@ -347,6 +348,15 @@ ships_to peer =
 pub ships : (peer : ℕ) → Does (bridge.Ships peer)
 ships peer =
     looks IsStill (λ p h. is_other p peer) (λ other. If other (bridge.ShipsTo peer) (Returns tt)) (λ other. by_test IsStill other (bridge.ShipsTo peer) (Returns tt) (ships_to peer) (returns IsStill tt))
+
+ships_more_to : (peer after : ℕ) → Does (bridge.ShipsMoreTo peer after)
+ships_more_to peer after =
+    join IsStill (bridge.ShipsState peer) (λ _. bridge.ShipsLater peer after) (finds IsStill (bridge.AreShipped peer) (bridge.GivesState peer) (gives_state peer))
+    (λ _. looks IsStill (λ p h. frames_after p.id peer after (lane_to h.bridge peer)) (Each GivesFrame) (λ fs. each IsStill GivesFrame fs gives_frame))
+
+pub ships_more : (peer after : ℕ) → Does (bridge.ShipsMore peer after)
+ships_more peer after =
+    looks IsStill (λ p h. is_other p peer) (λ other. If other (bridge.ShipsMoreTo peer after) (Returns tt)) (λ other. by_test IsStill other (bridge.ShipsMoreTo peer after) (Returns tt) (ships_more_to peer after) (returns IsStill tt))
 
 takes_copies : (from number : ℕ) (m : Forward) (x : List Copy × ℕ) → Does (passing.TakesCopies from number m x)
 takes_copies from number m x =

@@ -42,6 +42,7 @@ goes_on (kinds.Closed c) out p h acts is d = d
 goes_on (kinds.Frame bytes) out p h acts is d = d
 goes_on (kinds.Linked peer) out p h acts is d = d
 goes_on (kinds.Ship peer) out p h acts is d = d
+goes_on (kinds.More peer after) out p h acts is d = d
 goes_on kinds.Tick out p h acts is d = d
 goes_on (kinds.Evict client) out p h acts is d = d
 goes_on (kinds.Table homes) out p h acts is d = d
@@ -105,6 +106,7 @@ after_start (kinds.Closed c) ne = tt
 after_start (kinds.Frame bytes) ne = tt
 after_start (kinds.Linked peer) ne = tt
 after_start (kinds.Ship peer) ne = tt
+after_start (kinds.More peer after) ne = tt
 after_start kinds.Tick ne = tt
 after_start (kinds.Evict client) ne = tt
 after_start (kinds.Table homes) ne = tt
@@ -118,6 +120,7 @@ awaits (kinds.Closed c) x p h acts ne d = d.1
 awaits (kinds.Frame bytes) x p h acts ne d = d.1
 awaits (kinds.Linked peer) x p h acts ne d = d.1
 awaits (kinds.Ship peer) x p h acts ne d = d.1
+awaits (kinds.More peer after) x p h acts ne d = d.1
 awaits kinds.Tick x p h acts ne d = d.1
 awaits (kinds.Evict client) x p h acts ne d = d.1
 awaits (kinds.Table homes) x p h acts ne d = d.1
@@ -178,6 +181,7 @@ module _ (e : Event) (p : Place) (h : HeldView) (acts : List Act) (d : turns.Dec
   came_by (kinds.Frame bytes) is = another h.started refl (λ q. (let z : kinds.Frame bytes ≡ kinds.Started = sym is ∙ q in cc))
   came_by (kinds.Linked peer) is = another h.started refl (λ q. (let z : kinds.Linked peer ≡ kinds.Started = sym is ∙ q in cc))
   came_by (kinds.Ship peer) is = another h.started refl (λ q. (let z : kinds.Ship peer ≡ kinds.Started = sym is ∙ q in cc))
+  came_by (kinds.More peer after) is = another h.started refl (λ q. (let z : kinds.More peer after ≡ kinds.Started = sym is ∙ q in cc))
   came_by kinds.Tick is = another h.started refl (λ q. (let z : kinds.Tick ≡ kinds.Started = sym is ∙ q in cc))
   came_by (kinds.Evict client) is = another h.started refl (λ q. (let z : kinds.Evict client ≡ kinds.Started = sym is ∙ q in cc))
   came_by (kinds.Table homes) is = another h.started refl (λ q. (let z : kinds.Table homes ≡ kinds.Started = sym is ∙ q in cc))

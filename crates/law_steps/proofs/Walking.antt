@@ -11,6 +11,7 @@ use Rattle.mqtt_sessions.specs.Answers.{disconnect, fits}
 use Rattle.mqtt_sessions.specs.Reaction.{Reaction}
 use Rattle.mqtt_sessions.specs.State.{limit_in}
 use Rattle.bridge_deltas.specs.Lane.{first_frames}
+use Rattle.bridge_deltas.specs.More.{frames_after}
 use Rattle.bridge_frames.specs.declared.body.FrameBody.{FrameBody}
 use Rattle.bridge_frames.specs.declared.body.FrameBody.TheVariants.{Hello, Delta, Know, Forward as Carried, Got}
 use Rattle.bridge_frames.specs.declared.forward.Forward.{Forward}
@@ -404,6 +405,14 @@ module _ (T : Property) (c : Closed T) (due_one : (p : Place) (h : HeldView) (a 
     ships : (peer : ℕ) → Keeps T (bridge.Ships peer)
     ships peer = j_looks T c (λ p h. is_other p peer) (λ other. If other (bridge.ShipsTo peer) (Returns tt)) (λ other. j_if T c other (bridge.ShipsTo peer) (Returns tt) (ships_to peer) (j_returns T c tt))
 
+    ships_more_to : (peer after : ℕ) → Keeps T (bridge.ShipsMoreTo peer after)
+    ships_more_to peer after =
+        j_then T c (bridge.ShipsState peer) (λ _. bridge.ShipsLater peer after) (j_finds T c (bridge.AreShipped peer) (bridge.GivesState peer) (gives_state peer))
+        (λ _. j_looks T c (λ p h. frames_after p.id peer after (lane_to h.bridge peer)) (Each GivesFrame) (λ fs. each GivesFrame fs gives_frame))
+
+    ships_more : (peer after : ℕ) → Keeps T (bridge.ShipsMore peer after)
+    ships_more peer after = j_looks T c (λ p h. is_other p peer) (λ other. If other (bridge.ShipsMoreTo peer after) (Returns tt)) (λ other. j_if T c other (bridge.ShipsMoreTo peer after) (Returns tt) (ships_more_to peer after) (j_returns T c tt))
+
     takes_next : (from number : ℕ) (m : Forward) → Keeps T (bridge.TakesNext from number m)
     takes_next from number m =
         j_looks T c (λ p h. is_next from number h.bridge) (λ next. If next (passing.TakesForward from number m) (Returns tt))
@@ -453,6 +462,7 @@ module _ (T : Property) (c : Closed T) (due_one : (p : Place) (h : HeldView) (a 
     answers_event (kinds.Frame bytes) x p h acts may d = (hears_frame (frame_in bytes)).of x p h acts d
     answers_event (kinds.Linked peer) x p h acts may d = (greets peer).of x p h acts d
     answers_event (kinds.Ship peer) x p h acts may d = (ships peer).of x p h acts d
+    answers_event (kinds.More peer after) x p h acts may d = (ships_more peer after).of x p h acts d
     answers_event kinds.Tick x p h acts may d = (j_returns T c tt).of x p h acts d
     answers_event (kinds.Evict client) x p h acts may d = (evicts client).of x p h acts d
     answers_event (kinds.Table homes) x p h acts may d = takes_table homes x p h acts may d

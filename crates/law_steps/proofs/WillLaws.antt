@@ -36,7 +36,7 @@ use Rattle.law_runs.proofs.Staying.{called_at, stays_made}
 use Rattle.law_steps.specs.Wills.{AsksForWill, BeginsDropped, IsPublished, WillIsPassedOn, WillsArePassedOn, WillsStayPassedOn}
 use Rattle.law_steps.proofs.Above.{High, does_due, does_reaction, piece_of, leaves_of, makes_room, starts, opens, takes_table}
 use Rattle.law_steps.proofs.Below.{evicts}
-use Rattle.law_steps.proofs.Between.{Mid, greets, hears, ships}
+use Rattle.law_steps.proofs.Between.{Mid, greets, hears, ships, ships_more}
 use Rattle.law_steps.proofs.Joining.{j_acting, j_numbered, j_calls}
 use Rattle.law_steps.proofs.WillWork.{T, K, c, low, one_told, call_other, ticks_of, finishes_of, run_out}
 
@@ -89,6 +89,7 @@ answers_kind (kinds.Room n bytes) = makes_room K low high n bytes
 answers_kind (kinds.Frame bytes) = hears K low mid bytes
 answers_kind (kinds.Linked peer) = greets K low mid peer
 answers_kind (kinds.Ship peer) = ships K low mid peer
+answers_kind (kinds.More peer after) = ships_more K low mid peer after
 answers_kind kinds.Tick = low.returns tt
 answers_kind (kinds.Evict client) = evicts K low client
 answers_kind (kinds.Table homes) = takes_table K low high homes
@@ -105,6 +106,7 @@ goes_on (kinds.Room n bytes) = after_due (kinds.Room n bytes)
 goes_on (kinds.Frame bytes) = after_due (kinds.Frame bytes)
 goes_on (kinds.Linked peer) = after_due (kinds.Linked peer)
 goes_on (kinds.Ship peer) = after_due (kinds.Ship peer)
+goes_on (kinds.More peer after) = after_due (kinds.More peer after)
 goes_on kinds.Tick = after_due kinds.Tick
 goes_on (kinds.Evict client) = after_due (kinds.Evict client)
 goes_on (kinds.Table homes) = after_due (kinds.Table homes)
@@ -118,6 +120,7 @@ first_turn (kinds.Room n bytes) = low.returns tt
 first_turn (kinds.Frame bytes) = low.returns tt
 first_turn (kinds.Linked peer) = low.returns tt
 first_turn (kinds.Ship peer) = low.returns tt
+first_turn (kinds.More peer after) = low.returns tt
 first_turn kinds.Tick = low.returns tt
 first_turn (kinds.Evict client) = low.returns tt
 first_turn (kinds.Table homes) = low.returns tt

@@ -1,6 +1,7 @@
--- What a link that begins, a Ship and a frame of another node come to, and nothing else (docs/cluster.md).
+-- What a link that begins, a Ship, a More and a frame of another node come to, and nothing else (docs/cluster.md).
 use Rattle.std.specs.Prelude.{◌≡◌, ℕ, cond, List, [], ◌∷◌, ◌++◌, map as map_list, Option, Some, None}
 use Rattle.bridge_deltas.specs.Lane.{first_frames}
+use Rattle.bridge_deltas.specs.More.{frames_after}
 use Rattle.bridge_frames.specs.declared.body.FrameBody.{FrameBody}
 use Rattle.bridge_frames.specs.declared.body.FrameBody.TheVariants.{Hello, Delta, Know, Forward, Got}
 use Rattle.bridge_frames.specs.declared.forward.Forward.{Forward as Message}
@@ -36,6 +37,13 @@ IsSentTo p h peer acts = (s : Option State) × IsToShip peer h.bridge h.store s 
 -- another node of the cluster is
 abbrev pub ShipsAlone : Place → HeldView → ℕ → List Act → Type 0
 ShipsAlone p h peer acts = cond (is_other p peer) (IsSentTo p h peer acts) (acts ≡ [])
+
+-- the same, and of the messages those that wait under numbers above one, as many as go at once
+abbrev pub IsSentMore : Place → HeldView → ℕ → ℕ → List Act → Type 0
+IsSentMore p h peer after acts = (s : Option State) × IsToShip peer h.bridge h.store s × (acts ≡ all_out (deltas_to p peer s ++ frames_after p.id peer after (lane_to h.bridge peer)))
+
+abbrev pub MoreAlone : Place → HeldView → ℕ → ℕ → List Act → Type 0
+MoreAlone p h peer after acts = cond (is_other p peer) (IsSentMore p h peer after acts) (acts ≡ [])
 
 -- ---- a frame that comes
 -- a message is taken of its sender's lane, and its copies join their sessions

@@ -13,7 +13,7 @@ use Rattle.broker_node.specs.declared.event.EventKind.{EventKind}
 use Rattle.broker_node.specs.declared.event.EventKind.TheVariants as kinds
 use Rattle.broker_node.specs.Turns.{Decides}
 use Rattle.law_runs.specs.ConnectionRooms.{IsToldOf}
-use Rattle.law_steps.specs.Bridging.{FrameAlone, GreetsAlone, ShipsAlone}
+use Rattle.law_steps.specs.Bridging.{FrameAlone, GreetsAlone, MoreAlone, ShipsAlone}
 use Rattle.law_steps.specs.Ending.{AllDueIsDone, LeavesFrom}
 use Rattle.law_steps.specs.Moving.{StartsAlone, TableAlone}
 use Rattle.law_steps.specs.Pieces.{BytesAlone}
@@ -29,6 +29,7 @@ ComesTo (kinds.Evict client) p h acts = acts ≡ cond (any_of client None h.stor
 ComesTo (kinds.Frame bytes) p h acts = FrameAlone p h (frame_in bytes) acts
 ComesTo (kinds.Linked peer) p h acts = GreetsAlone p peer acts
 ComesTo (kinds.Ship peer) p h acts = ShipsAlone p h peer acts
+ComesTo (kinds.More peer after) p h acts = MoreAlone p h peer after acts
 ComesTo (kinds.Table homes) p h acts = TableAlone p h homes acts
 ComesTo kinds.Started p h acts = acts ≡ []
 

@@ -2,6 +2,7 @@
 use Rattle.std.specs.Prelude.{◌≡◌, ℕ, cond, List, [], ◌∷◌, ◌++◌, map as map_list, Option, Some, None}
 use Rattle.std.specs.List.{filter}
 use Rattle.bridge_deltas.specs.Lane.{first_frames}
+use Rattle.bridge_deltas.specs.More.{frames_after}
 use Rattle.bridge_frames.specs.declared.body.FrameBody.{FrameBody}
 use Rattle.bridge_frames.specs.declared.body.FrameBody.TheVariants.{Hello, Delta, Know, Forward, Got}
 use Rattle.bridge_frames.specs.declared.frame.BridgeFrame.{BridgeFrame}
@@ -47,6 +48,11 @@ abbrev pub ShippedFrames : Place → HeldView → ℕ → List BridgeFrame → T
 ShippedFrames p h peer fs =
     (s : Option State) × IsToShip peer h.bridge h.store s × (fs ≡ those_small (deltas_to p peer s ++ first_frames p.id peer (lane_to h.bridge peer)))
 
+-- in place of these a Forward for each message that waits under a number above one, as many as go at once
+abbrev pub MoreFrames : Place → HeldView → ℕ → ℕ → List BridgeFrame → Type 0
+MoreFrames p h peer after fs =
+    (s : Option State) × IsToShip peer h.bridge h.store s × (fs ≡ those_small (deltas_to p peer s ++ frames_after p.id peer after (lane_to h.bridge peer)))
+
 -- ---- in answer to a frame
 -- the dots that the node has taken, or the number of the last message that it has taken of the sender's lane
 abbrev pub answer_to : HeldView → ℕ → FrameBody → List FrameBody
@@ -66,6 +72,7 @@ abbrev pub AreOfEvent : Place → HeldView → HeldView → EventKind → List B
 AreOfEvent p h last (kinds.Frame bytes) fs = fs ≡ answers_to p last (frame_in bytes)
 AreOfEvent p h last (kinds.Linked peer) fs = fs ≡ cond (is_other p peer) (those_small (frame_to p peer Hello ∷ [])) []
 AreOfEvent p h last (kinds.Ship peer) fs = cond (is_other p peer) (ShippedFrames p h peer fs) (fs ≡ [])
+AreOfEvent p h last (kinds.More peer after) fs = cond (is_other p peer) (MoreFrames p h peer after fs) (fs ≡ [])
 AreOfEvent p h last kind fs = fs ≡ []
 
 -- acts that give no frame, and then those of the event; before a node has started there are none

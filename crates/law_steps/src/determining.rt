@@ -7,9 +7,8 @@ pub fn steps_keep_laws()
     ensures { StepsKeepLaws }
 {}
 
-/// Any two lists of acts that a node may do from what it holds, and that keep the laws of the event, are one where these leave no room: a Tick; an
-/// opening, a room and a close of a connection, and bytes on it, so each packet of a client; an eviction; what comes before Started, and a second Started.
-/// So the same goes out to each client, in the same order, and the node holds the same afterwards. The node's table is one of homes.
+/// Any two lists of acts that a node may do from what it holds, and that keep the laws of the event, are one, whatever the event. So the same goes out to
+/// each client and to each node, in the same order, and the node holds the same afterwards. The node's table is one of homes.
 pub fn laws_determine()
     ensures { LawsDetermine }
 {}

@@ -1,39 +1,24 @@
 -- One rule more, where it is put.
 use Rattle.std.proofs.Common.{◌≡◌, ℕ, Bool, true, false, ◌||◌, ◌&&◌, cond, Result, Ok, Err, OnOk, List, [], ◌∷◌, ◌++◌, Option, Some, None, refl, sym, ap, ◌∙◌, subst}
-use Rattle.std.specs.BTreeMap.{BTreeMap}
 use Rattle.std.specs.List.{list_any}
 use Rattle.std.specs.Option.{option_map_or}
 use Rattle.std.specs.Str.{bytes_eq}
-use Rattle.std.proofs.lemmas.Map.Text.{is_eq-slice_cmp}
 use Rattle.mqtt_topics.specs.Levels.{levels}
-use Rattle.mqtt_access.specs.Index.{HasMore, IsAdded, IsAddedFor, forbids, forbids_at, forbids_in, gives, gives_at, gives_in, group_of, own}
-use Rattle.mqtt_access.specs.Rules.{Asked, allows, denies, is_deny, meets_asked, passes, suits}
-use Rattle.mqtt_access.specs.declared.index.RuleGroup.{RuleGroup}
+use Rattle.mqtt_access.specs.Index.{HasMore, IsMorePatterns, forbids, forbids_in, gives, gives_in, own}
+use Rattle.mqtt_access.specs.Named.{IsAddedFor, rules_of}
+use Rattle.mqtt_access.specs.Own.{IsAdded, forbids_at, gives_at, own_forbids, own_gives}
+use Rattle.mqtt_access.specs.Rules.{Asked, allows, denies, is_deny, is_unfit, meets_asked, passes, suits}
 use Rattle.mqtt_access.specs.declared.index.RuleIndex.{RuleIndex}
+use Rattle.mqtt_access.specs.declared.named.NamedRules.{NamedRules}
+use Rattle.mqtt_access.specs.declared.own.OwnRules.{OwnRules}
+use Rattle.mqtt_access.specs.declared.patterns.Patterns.{Patterns}
 use Rattle.mqtt_access.specs.declared.rule.Access.{Access}
 use Rattle.mqtt_access.specs.declared.rule.Access.TheVariants.{Read, Write, ReadWrite, Deny}
 use Rattle.mqtt_access.specs.declared.rule.Scope.{Scope}
-use Rattle.mqtt_access.specs.declared.rule.Scope.TheVariants.{Nameless, User}
+use Rattle.mqtt_access.specs.declared.rule.Scope.TheVariants.{Nameless, User, Pattern}
 use Rattle.mqtt_access.specs.declared.rule.TopicRule.{TopicRule}
+use Rattle.mqtt_access.proofs.Owning.{any_more, no_more}
 use Rattle.mqtt_access.proofs.Tests.{by_test, false_of, false_or_true, same, tests_same}
-
--- ---- a test of some rule, with one rule more
-
-pub any_more : (test : TopicRule → Bool) (rules : List TopicRule) (rule : TopicRule) → list_any test (rules ++ rule ∷ []) ≡ (list_any test rules || test rule)
-any_more test [] rule = last (test rule)
-  where
-    last : (b : Bool) → (b || false) ≡ (false || b)
-    last true = refl
-    last false = refl
-any_more test (r ∷ rules) rule = ap (λ (b : Bool). test r || b) (any_more test rules rule) ∙ again (test r) (list_any test rules) (test rule)
-  where
-    again : (a b c : Bool) → (a || (b || c)) ≡ ((a || b) || c)
-    again true b c = refl
-    again false b c = refl
-
-no_more : (b : Bool) → b ≡ (b || false)
-no_more true = refl
-no_more false = refl
 
 -- ---- what kinds of rules don't do
 
@@ -49,18 +34,18 @@ forbids_nothing rule Read user client asked is e = ap (λ (a : Access). denies (
 forbids_nothing rule Write user client asked is e = ap (λ (a : Access). denies (record rule { access = a }) user client asked) is
 forbids_nothing rule ReadWrite user client asked is e = ap (λ (a : Access). denies (record rule { access = a }) user client asked) is
 
--- ---- a rule joins those that give, or those that forbid
+-- ---- a pattern joins those that give, or those that forbid
 
-pub put_giving : (rule : TopicRule) (g g' : RuleGroup) → is_deny rule.access ≡ false → g'.giving.items ≡ g.giving.items ++ rule ∷ [] → g'.denying.items ≡ g.denying.items → IsAdded rule (Some g) (Some g')
-put_giving rule g g' gives more same = record {
+pub put_giving : (rule : TopicRule) (g g' : Patterns) → is_deny rule.access ≡ false → g'.giving.items ≡ g.giving.items ++ rule ∷ [] → g'.denying.items ≡ g.denying.items → IsMorePatterns rule g g'
+put_giving rule g g' gives_some more same = record {
   gives = λ user client asked.
       ap (list_any (λ r. allows r user client asked)) more ∙ any_more (λ r. allows r user client asked) g.giving.items rule;
   forbids = λ user client asked.
       ap (list_any (λ r. denies r user client asked)) same ∙ no_more (forbids g user client asked)
-      ∙ ap (λ (b : Bool). forbids g user client asked || b) (sym (forbids_nothing rule rule.access user client asked refl gives));
+      ∙ ap (λ (b : Bool). forbids g user client asked || b) (sym (forbids_nothing rule rule.access user client asked refl gives_some));
 }
 
-pub put_denying : (rule : TopicRule) (g g' : RuleGroup) → is_deny rule.access ≡ true → g'.denying.items ≡ g.denying.items ++ rule ∷ [] → g'.giving.items ≡ g.giving.items → IsAdded rule (Some g) (Some g')
+pub put_denying : (rule : TopicRule) (g g' : Patterns) → is_deny rule.access ≡ true → g'.denying.items ≡ g.denying.items ++ rule ∷ [] → g'.giving.items ≡ g.giving.items → IsMorePatterns rule g g'
 put_denying rule g g' denied more same = record {
   gives = λ user client asked.
       ap (list_any (λ r. allows r user client asked)) same ∙ no_more (gives g user client asked)
@@ -69,14 +54,17 @@ put_denying rule g g' denied more same = record {
       ap (list_any (λ r. denies r user client asked)) more ∙ any_more (λ r. denies r user client asked) g.denying.items rule;
 }
 
--- ---- the rules of a user, taken out and put back
+-- ---- no rules
 
-pub first_put : (rule : TopicRule) (g g' : RuleGroup) → ((user : Option (List ℕ)) (client : List ℕ) (asked : Asked) → gives g user client asked ≡ false)
-    → ((user : Option (List ℕ)) (client : List ℕ) (asked : Asked) → forbids g user client asked ≡ false) → IsAdded rule (Some g) (Some g') → IsAdded rule None (Some g')
-first_put rule g g' none_gives none_forbids is = record {
-  gives = λ user client asked. is.gives user client asked ∙ ap (λ (b : Bool). b || allows rule user client asked) (none_gives user client asked);
-  forbids = λ user client asked. is.forbids user client asked ∙ ap (λ (b : Bool). b || denies rule user client asked) (none_forbids user client asked);
-}
+pub none_given : (x : RuleIndex) → ((asked : Asked) → own_gives x.nameless asked ≡ false) → ((name : List ℕ) → rules_of x.named name ≡ None)
+    → ((user : Option (List ℕ)) (client : List ℕ) (asked : Asked) → gives x.patterns user client asked ≡ false) → (user : Option (List ℕ)) (client : List ℕ) (asked : Asked) → gives_in x user client asked ≡ false
+none_given x nameless named patterns None client asked = ap (λ (b : Bool). b || gives x.patterns None client asked) (nameless asked) ∙ patterns None client asked
+none_given x nameless named patterns (Some user) client asked = ap (λ (o : Option OwnRules). gives_at o asked || gives x.patterns (Some user) client asked) (named user) ∙ patterns (Some user) client asked
+
+pub none_forbidden : (x : RuleIndex) → ((asked : Asked) → own_forbids x.nameless asked ≡ false) → ((name : List ℕ) → rules_of x.named name ≡ None)
+    → ((user : Option (List ℕ)) (client : List ℕ) (asked : Asked) → forbids x.patterns user client asked ≡ false) → (user : Option (List ℕ)) (client : List ℕ) (asked : Asked) → forbids_in x user client asked ≡ false
+none_forbidden x nameless named patterns None client asked = ap (λ (b : Bool). b || forbids x.patterns None client asked) (nameless asked) ∙ patterns None client asked
+none_forbidden x nameless named patterns (Some user) client asked = ap (λ (o : Option OwnRules). forbids_at o asked || forbids x.patterns (Some user) client asked) (named user) ∙ patterns (Some user) client asked
 
 -- ---- whose rule it is
 
@@ -125,40 +113,61 @@ record IsMore (rule : TopicRule) (user : Option (List ℕ)) (x x' : RuleIndex) :
   gives : (client : List ℕ) (asked : Asked) → gives_in x' user client asked ≡ (gives_in x user client asked || allows rule user client asked)
   forbids : (client : List ℕ) (asked : Asked) → forbids_in x' user client asked ≡ (forbids_in x user client asked || denies rule user client asked)
 
-joins_own : (rule : TopicRule) (user : Option (List ℕ)) (x x' : RuleIndex) → IsAdded rule (own x user) (own x' user) → x'.patterns ≡ x.patterns → IsMore rule user x x'
-joins_own rule user x x' is same = record {
+-- a rule is for this user, whatever its kind
+record IsFor (rule : TopicRule) (user : Option (List ℕ)) : Type 0 where
+  gives : (client : List ℕ) (asked : Asked) → (suits rule.access asked && passes (levels rule.filter) asked) ≡ allows rule user client asked
+  forbids : (client : List ℕ) (asked : Asked) → (is_deny rule.access && meets_asked (levels rule.filter) asked) ≡ denies rule user client asked
+
+nameless_for : (rule : TopicRule) → rule.scope ≡ Nameless → IsFor rule None
+nameless_for rule is = record {
+  gives = λ client asked. ap (λ (s : Scope). allows (record rule { scope = s }) None client asked) (sym is);
+  forbids = λ client asked. ap (λ (s : Scope). denies (record rule { scope = s }) None client asked) (sym is);
+}
+
+user_for : (rule : TopicRule) (owner : List ℕ) → rule.scope ≡ User owner → IsFor rule (Some owner)
+user_for rule owner is = record {
   gives = λ client asked.
-      ap (λ (b : Bool). b || gives x'.patterns user client asked) (is.gives user client asked)
-      ∙ ap (λ (g : RuleGroup). (gives_at (own x user) user client asked || allows rule user client asked) || gives g user client asked) same
-      ∙ beside (gives_at (own x user) user client asked) (gives x.patterns user client asked) (allows rule user client asked);
+      ap (λ (b : Bool). suits rule.access asked && option_map_or (λ ls. passes ls asked) (cond b (Some (levels rule.filter)) None) false) (sym (tests_same owner owner refl))
+      ∙ ap (λ (s : Scope). allows (record rule { scope = s }) (Some owner) client asked) (sym is);
   forbids = λ client asked.
-      ap (λ (b : Bool). b || forbids x'.patterns user client asked) (is.forbids user client asked)
-      ∙ ap (λ (g : RuleGroup). (forbids_at (own x user) user client asked || denies rule user client asked) || forbids g user client asked) same
-      ∙ beside (forbids_at (own x user) user client asked) (forbids x.patterns user client asked) (denies rule user client asked);
+      ap (λ (b : Bool). is_deny rule.access && option_map_or (λ ls. meets_asked ls asked) (cond b (Some (levels rule.filter)) None) false) (sym (tests_same owner owner refl))
+      ∙ ap (λ (s : Scope). denies (record rule { scope = s }) (Some owner) client asked) (sym is);
+}
+
+joins_own : (rule : TopicRule) (user : Option (List ℕ)) (x x' : RuleIndex) → IsFor rule user → IsAdded rule.access rule.filter (own x user) (own x' user) → x'.patterns ≡ x.patterns → IsMore rule user x x'
+joins_own rule user x x' here is same = record {
+  gives = λ client asked.
+      ap (λ (b : Bool). b || gives x'.patterns user client asked) (is.gives asked ∙ ap (λ (b : Bool). gives_at (own x user) asked || b) (here.gives client asked))
+      ∙ ap (λ (g : Patterns). (gives_at (own x user) asked || allows rule user client asked) || gives g user client asked) same
+      ∙ beside (gives_at (own x user) asked) (gives x.patterns user client asked) (allows rule user client asked);
+  forbids = λ client asked.
+      ap (λ (b : Bool). b || forbids x'.patterns user client asked) (is.forbids asked ∙ ap (λ (b : Bool). forbids_at (own x user) asked || b) (here.forbids client asked))
+      ∙ ap (λ (g : Patterns). (forbids_at (own x user) asked || denies rule user client asked) || forbids g user client asked) same
+      ∙ beside (forbids_at (own x user) asked) (forbids x.patterns user client asked) (denies rule user client asked);
 }
 
 not_for : (rule : TopicRule) (user : Option (List ℕ)) (x x' : RuleIndex) → IsNot rule user → own x' user ≡ own x user → x'.patterns ≡ x.patterns → IsMore rule user x x'
 not_for rule user x x' none here all = record {
   gives = λ client asked.
-      ap (λ (g : Option RuleGroup). gives_at g user client asked || gives x'.patterns user client asked) here
-      ∙ ap (λ (g : RuleGroup). gives_at (own x user) user client asked || gives g user client asked) all
+      ap (λ (g : Option OwnRules). gives_at g asked || gives x'.patterns user client asked) here
+      ∙ ap (λ (g : Patterns). gives_at (own x user) asked || gives g user client asked) all
       ∙ no_more (gives_in x user client asked) ∙ ap (λ (b : Bool). gives_in x user client asked || b) (sym (none.gives client asked));
   forbids = λ client asked.
-      ap (λ (g : Option RuleGroup). forbids_at g user client asked || forbids x'.patterns user client asked) here
-      ∙ ap (λ (g : RuleGroup). forbids_at (own x user) user client asked || forbids g user client asked) all
+      ap (λ (g : Option OwnRules). forbids_at g asked || forbids x'.patterns user client asked) here
+      ∙ ap (λ (g : Patterns). forbids_at (own x user) asked || forbids g user client asked) all
       ∙ no_more (forbids_in x user client asked) ∙ ap (λ (b : Bool). forbids_in x user client asked || b) (sym (none.forbids client asked));
 }
 
-joins_all : (rule : TopicRule) (user : Option (List ℕ)) (x x' : RuleIndex) → IsAdded rule (Some x.patterns) (Some x'.patterns) → own x' user ≡ own x user → IsMore rule user x x'
+joins_all : (rule : TopicRule) (user : Option (List ℕ)) (x x' : RuleIndex) → IsMorePatterns rule x.patterns x'.patterns → own x' user ≡ own x user → IsMore rule user x x'
 joins_all rule user x x' is here = record {
   gives = λ client asked.
-      ap (λ (g : Option RuleGroup). gives_at g user client asked || gives x'.patterns user client asked) here
-      ∙ ap (λ (b : Bool). gives_at (own x user) user client asked || b) (is.gives user client asked)
-      ∙ behind (gives_at (own x user) user client asked) (gives x.patterns user client asked) (allows rule user client asked);
+      ap (λ (g : Option OwnRules). gives_at g asked || gives x'.patterns user client asked) here
+      ∙ ap (λ (b : Bool). gives_at (own x user) asked || b) (is.gives user client asked)
+      ∙ behind (gives_at (own x user) asked) (gives x.patterns user client asked) (allows rule user client asked);
   forbids = λ client asked.
-      ap (λ (g : Option RuleGroup). forbids_at g user client asked || forbids x'.patterns user client asked) here
-      ∙ ap (λ (b : Bool). forbids_at (own x user) user client asked || b) (is.forbids user client asked)
-      ∙ behind (forbids_at (own x user) user client asked) (forbids x.patterns user client asked) (denies rule user client asked);
+      ap (λ (g : Option OwnRules). forbids_at g asked || forbids x'.patterns user client asked) here
+      ∙ ap (λ (b : Bool). forbids_at (own x user) asked || b) (is.forbids user client asked)
+      ∙ behind (forbids_at (own x user) asked) (forbids x.patterns user client asked) (denies rule user client asked);
 }
 
 -- ---- an index with one rule more
@@ -170,33 +179,28 @@ whole rule x x' each same = record {
   clients = same;
 }
 
-pub more_nameless : (rule : TopicRule) (x : RuleIndex) (g : RuleGroup) → rule.scope ≡ Nameless → IsAdded rule (Some x.nameless) (Some g) → HasMore rule x (record x { nameless = g })
+pub more_nameless : (rule : TopicRule) (x : RuleIndex) (g : OwnRules) → rule.scope ≡ Nameless → IsAdded rule.access rule.filter (Some x.nameless) (Some g) → HasMore rule x (record x { nameless = g })
 more_nameless rule x g is added = whole rule x (record x { nameless = g }) each refl
   where
     each : (user : Option (List ℕ)) → IsMore rule user x (record x { nameless = g })
-    each None = joins_own rule None x (record x { nameless = g }) added refl
+    each None = joins_own rule None x (record x { nameless = g }) (nameless_for rule is) added refl
     each (Some name) = not_for rule (Some name) x (record x { nameless = g }) (nameless_not rule name is) refl refl
 
-pub more_pattern : (rule : TopicRule) (x : RuleIndex) (g : RuleGroup) → IsAdded rule (Some x.patterns) (Some g) → HasMore rule x (record x { patterns = g })
+pub more_pattern : (rule : TopicRule) (x : RuleIndex) (g : Patterns) → IsMorePatterns rule x.patterns g → HasMore rule x (record x { patterns = g })
 more_pattern rule x g added = whole rule x (record x { patterns = g }) each refl
   where
     each : (user : Option (List ℕ)) → IsMore rule user x (record x { patterns = g })
     each None = joins_all rule None x (record x { patterns = g }) added refl
     each (Some name) = joins_all rule (Some name) x (record x { patterns = g }) added refl
 
-more_user : (rule : TopicRule) (x : RuleIndex) (users : BTreeMap (List ℕ) RuleGroup) (owner : List ℕ) → rule.scope ≡ User owner → IsAddedFor owner rule x.users users → HasMore rule x (record x { users = users })
-more_user rule x users owner is added = whole rule x (record x { users = users }) each refl
+pub more_user : (rule : TopicRule) (x : RuleIndex) (t : NamedRules) (owner : List ℕ) → rule.scope ≡ User owner → IsAddedFor owner rule.access rule.filter x.named t → HasMore rule x (record x { named = t })
+more_user rule x t owner is added = whole rule x (record x { named = t }) each refl
   where
-    each : (user : Option (List ℕ)) → IsMore rule user x (record x { users = users })
-    each None = not_for rule None x (record x { users = users }) (user_not rule owner is) refl refl
+    each : (user : Option (List ℕ)) → IsMore rule user x (record x { named = t })
+    each None = not_for rule None x (record x { named = t }) (user_not rule owner is) refl refl
     each (Some name) = by_test (bytes_eq owner name) _
-        (λ same_name. joins_own rule (Some name) x (record x { users = users })
-        (subst (λ (n : List ℕ). IsAdded rule (group_of x.users n) (group_of users n)) (same owner name same_name) added.here) refl)
-        (λ other. not_for rule (Some name) x (record x { users = users })
+        (λ same_name. subst (λ (n : List ℕ). IsMore rule (Some n) x (record x { named = t })) (same owner name same_name)
+        (joins_own rule (Some owner) x (record x { named = t }) (user_for rule owner is) added.here refl))
+        (λ other. not_for rule (Some name) x (record x { named = t })
         (other_not rule owner name is (false_of (bytes_eq name owner) (λ e. false_or_true (bytes_eq owner name) other (tests_same owner name (sym (same name owner e))))))
-        (added.there name (is_eq-slice_cmp owner name ∙ other)) refl)
-
-pub more_if : {X E : Type 0} (result : Result X E) (rule : TopicRule) (x : RuleIndex) (users : BTreeMap (List ℕ) RuleGroup) (owner : List ℕ) → rule.scope ≡ User owner → OnOk result (IsAddedFor owner rule x.users users)
-    → OnOk result (HasMore rule x (record x { users = users }))
-more_if (Ok v) rule x users owner is added = more_user rule x users owner is added
-more_if (Err e) rule x users owner is added = tt
+        (added.there name other) refl)

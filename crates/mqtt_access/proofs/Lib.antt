@@ -3,7 +3,10 @@ pub mod Covering
 pub mod Exact
 pub mod FirstLevels
 pub mod Indexing
+pub mod Naming
+pub mod Owning
 pub mod Reading
 pub mod Samples
+pub mod Surely
 pub mod Tests
 pub mod Xors

@@ -1,5 +1,5 @@
 -- Levels of a rule's filter against those of a topic and of another filter, as tests (MQTT 5.0, 4.7).
-use Rattle.std.specs.Prelude.{ℕ, List, [], ◌∷◌, Bool, true, false, not, ◌&&◌, ◌||◌, ◌==◌, nat_eq, if◌then◌else◌}
+use Rattle.std.specs.Prelude.{ℕ, List, [], ◌∷◌, length, Bool, true, false, not, ◌&&◌, ◌||◌, ◌==◌, nat_eq, if◌then◌else◌}
 use Rattle.std.specs.List.{starts_with}
 use Rattle.std.specs.Str.{bytes_eq}
 use Rattle.mqtt_topics.specs.Levels.{is_separator, is_wildcard, levels, multi_level, single_level}
@@ -65,3 +65,12 @@ meet (level ∷ levels) (asked ∷ others) =
 abbrev pub meets : List (List ℕ) → List (List ℕ) → Bool
 meets rule asked =
     meet rule asked && not (is_wild (first_level rule) && begins_with_dollar (first_level asked)) && not (begins_with_dollar (first_level rule) && is_wild (first_level asked))
+
+abbrev pub nothing : List ℕ → Bool
+nothing bs = length bs == 0
+
+-- a topic's bytes are those of a filter up to its end, or to a `#` that is its last byte and stands behind a separator; whether a separator stands before them
+abbrev pub is_surely : Bool → List ℕ → List ℕ → Bool
+is_surely behind [] ts = nothing ts
+is_surely behind (f ∷ fs) [] = if f == 35 then behind && nothing fs else false
+is_surely behind (f ∷ fs) (t ∷ ts) = if f == 35 then behind && nothing fs else (if (f == 43) || not (f == t) then false else is_surely (is_separator f) fs ts)

@@ -1,54 +1,38 @@
 -- The rules of a file by the users that they are for.
-use Rattle.std.specs.Prelude.{◌≡◌, ◌&&◌, ◌||◌, not, ℕ, List, Bool, false, Option, Some, None}
-use Rattle.std.specs.BTreeMap.{BTreeMap, get}
-use Rattle.std.specs.Cmp.Lexicographic.{slice_cmp}
+use Rattle.std.specs.Prelude.{◌≡◌, ◌&&◌, ◌||◌, not, ℕ, List, Bool, Option, Some, None}
 use Rattle.std.specs.List.{list_any}
-use Rattle.std.specs.Ordering.{eq_by_cmp, nat_cmp}
+use Rattle.mqtt_access.specs.Named.{rules_of}
+use Rattle.mqtt_access.specs.Own.{forbids_at, gives_at}
 use Rattle.mqtt_access.specs.Rules.{Asked, allows, denies, may, may_connect}
-use Rattle.mqtt_access.specs.declared.index.RuleGroup.{RuleGroup}
 use Rattle.mqtt_access.specs.declared.index.RuleIndex.{RuleIndex}
+use Rattle.mqtt_access.specs.declared.own.OwnRules.{OwnRules}
+use Rattle.mqtt_access.specs.declared.patterns.Patterns.{Patterns}
 use Rattle.mqtt_access.specs.declared.permissions.Permissions.{Permissions}
 use Rattle.mqtt_access.specs.declared.rule.TopicRule.{TopicRule}
 
--- some rule gives a client what it asks for
-abbrev pub gives : RuleGroup → Option (List ℕ) → List ℕ → Asked → Bool
+-- some pattern gives a client what it asks for
+abbrev pub gives : Patterns → Option (List ℕ) → List ℕ → Asked → Bool
 gives g user client asked = list_any (λ rule. allows rule user client asked) g.giving.items
 
--- some rule forbids it some of that
-abbrev pub forbids : RuleGroup → Option (List ℕ) → List ℕ → Asked → Bool
+-- some pattern forbids it some of that
+abbrev pub forbids : Patterns → Option (List ℕ) → List ℕ → Asked → Bool
 forbids g user client asked = list_any (λ rule. denies rule user client asked) g.denying.items
 
-abbrev pub gives_at : Option RuleGroup → Option (List ℕ) → List ℕ → Asked → Bool
-gives_at None user client asked = false
-gives_at (Some g) user client asked = gives g user client asked
+-- there is one pattern more
+pub record IsMorePatterns (rule : TopicRule) (g g' : Patterns) : Type 0 where
+  pub gives : (user : Option (List ℕ)) (client : List ℕ) (asked : Asked) → gives g' user client asked ≡ (gives g user client asked || allows rule user client asked)
+  pub forbids : (user : Option (List ℕ)) (client : List ℕ) (asked : Asked) → forbids g' user client asked ≡ (forbids g user client asked || denies rule user client asked)
 
-abbrev pub forbids_at : Option RuleGroup → Option (List ℕ) → List ℕ → Asked → Bool
-forbids_at None user client asked = false
-forbids_at (Some g) user client asked = forbids g user client asked
-
--- there is one rule more
-pub record IsAdded (rule : TopicRule) (g g' : Option RuleGroup) : Type 0 where
-  pub gives : (user : Option (List ℕ)) (client : List ℕ) (asked : Asked) → gives_at g' user client asked ≡ (gives_at g user client asked || allows rule user client asked)
-  pub forbids : (user : Option (List ℕ)) (client : List ℕ) (asked : Asked) → forbids_at g' user client asked ≡ (forbids_at g user client asked || denies rule user client asked)
-
-abbrev pub group_of : BTreeMap (List ℕ) RuleGroup → List ℕ → Option RuleGroup
-group_of users user = get (slice_cmp nat_cmp) users user
-
--- this user has one more, and all others have theirs
-pub record IsAddedFor (user : List ℕ) (rule : TopicRule) (users users' : BTreeMap (List ℕ) RuleGroup) : Type 0 where
-  pub here : IsAdded rule (group_of users user) (group_of users' user)
-  pub there : (other : List ℕ) → eq_by_cmp (slice_cmp nat_cmp) user other ≡ false → group_of users' other ≡ group_of users other
-
--- those of clients without a name, or of a user
-abbrev pub own : RuleIndex → Option (List ℕ) → Option RuleGroup
+-- the rules of clients without a name, or of a user
+abbrev pub own : RuleIndex → Option (List ℕ) → Option OwnRules
 own x None = Some x.nameless
-own x (Some user) = group_of x.users user
+own x (Some user) = rules_of x.named user
 
 abbrev pub gives_in : RuleIndex → Option (List ℕ) → List ℕ → Asked → Bool
-gives_in x user client asked = gives_at (own x user) user client asked || gives x.patterns user client asked
+gives_in x user client asked = gives_at (own x user) asked || gives x.patterns user client asked
 
 abbrev pub forbids_in : RuleIndex → Option (List ℕ) → List ℕ → Asked → Bool
-forbids_in x user client asked = forbids_at (own x user) user client asked || forbids x.patterns user client asked
+forbids_in x user client asked = forbids_at (own x user) asked || forbids x.patterns user client asked
 
 -- what a client may do by its own rules and by those of all
 abbrev pub may_in : RuleIndex → Option (List ℕ) → List ℕ → Asked → Bool

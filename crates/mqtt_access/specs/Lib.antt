@@ -4,5 +4,7 @@ pub mod Hmac
 pub mod Index
 pub mod Keyed
 pub mod Laws
+pub mod Named
+pub mod Own
 pub mod Pbkdf2
 pub mod Rules

@@ -1,10 +1,10 @@
 //! Rules' filters against topics and against the filters of subscriptions.
 
-ghost use Rattle.std.specs.Prelude.{◌≡◌, MatchOption};
+ghost use Rattle.std.specs.Prelude.{◌≡◌, MatchOption, false};
 ghost use Rattle.mqtt_topics.specs.Levels.{levels};
 ghost use Rattle.mqtt_topics.specs.Topics.{IsShared, filter_part, share_filter};
 ghost use Rattle.mqtt_access.specs.Filled.{filled_left, filter_levels};
-ghost use Rattle.mqtt_access.specs.Comparing.{begins_alike, cover, covers, is_wild, matches_topic, meet, meets, name_matches, opened};
+ghost use Rattle.mqtt_access.specs.Comparing.{begins_alike, cover, covers, is_surely, is_wild, matches_topic, meet, meets, name_matches, opened};
 
 use crate::filled::{FilledLevels, RuleFilter, first_of};
 use mqtt_topics::Levels;
@@ -54,6 +54,31 @@ fn begins_alike(filter: &str, topic: &str) -> bool
         if byte != first {
             return false;
         }
+        rest = later;
+    }
+    rest.is_empty()
+}
+
+/// Whether a topic is the text of a filter without wildcards, or begins with what stands before the only one, a `#` behind a separator. Then the filter
+/// matches it.
+fn is_surely(filter: &str, topic: &str) -> bool
+    ensures { result ≡ is_surely false filter.now topic.now }
+{
+    let mut rest = topic.as_bytes();
+    let mut left = filter.as_bytes();
+    let mut behind = false;
+    while let [byte, more @ ..] = left {
+        if *byte == b'#' {
+            return behind && more.is_empty();
+        }
+        let [first, later @ ..] = rest else {
+            return false;
+        };
+        if *byte == b'+' || byte != first {
+            return false;
+        }
+        behind = *byte == b'/';
+        left = more;
         rest = later;
     }
     rest.is_empty()
@@ -137,13 +162,17 @@ impl<'a> RuleFilter<'a> {
         name_matches(self.levels(), topic) && !(is_wild(self.first()) && topic.starts_with("$"))
     }
 
-    /// Whether it matches a topic. Most filters that don't are known by their first bytes.
-    #[tactic(auto, using(crate::proofs::Beginnings::unlike))]
+    /// Whether it matches a topic. Most filters that don't are known by their first bytes, and most that do have no wildcard but a `#`: their levels aren't
+    /// looked at.
+    #[tactic(auto, using(crate::proofs::Beginnings::unlike, crate::proofs::Surely::surely))]
     pub(crate) fn matches(self, topic: &str) -> bool
         ensures { result ≡ matches_topic (filter_levels self.entry) topic.now }
     {
         if self.names.is_none() && !begins_alike(self.filter, topic) {
             return false;
+        }
+        if self.names.is_none() && is_surely(self.filter, topic) {
+            return true;
         }
         self.matches_levels(topic)
     }

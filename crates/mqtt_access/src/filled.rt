@@ -1,11 +1,11 @@
 //! The levels of a rule's filter, with names in the places that it leaves for them.
 
-ghost use Rattle.std.specs.Prelude.{◌≡◌};
+ghost use Rattle.std.specs.Prelude.{◌≡◌, None};
 ghost use Rattle.std.specs.List.{list_any};
 ghost use Rattle.mqtt_topics.specs.Levels.{levels};
 ghost use Rattle.mqtt_access.specs.Filled.{filled_place, filter_levels, first_level, has_level, is_level_name, is_special};
 
-use mqtt_topics::Levels;
+use mqtt_topics::{Filter, Levels};
 
 /// The place of the user name, and that of the client identifier.
 pub(crate) const USER_PLACE: &str = "%u";
@@ -69,6 +69,17 @@ impl<'a> Iterator for FilledLevels<'a> {
 
 impl<'a> RuleFilter<'a> {
     ghost use Rattle.mqtt_access.specs.Filled.{filled_left};
+
+    /// A filter without places for names.
+    pub(crate) fn plain(filter: &'a Filter) -> RuleFilter<'a>
+        ensures levels { filter_levels result ≡ levels filter.now }
+        ensures plain { result.names ≡ None }
+    {
+        RuleFilter {
+            filter: filter.as_str(),
+            names: None,
+        }
+    }
 
     /// Its levels.
     pub(crate) fn levels(self) -> FilledLevels<'a>

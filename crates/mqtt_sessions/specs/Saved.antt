@@ -90,6 +90,9 @@ keeps_main (packets.Publish p) = is_single p.qos
 keeps_main (packets.Subscribe p) = true
 keeps_main (packets.Unsubscribe p) = true
 keeps_main packets.Pingreq = true
+keeps_main (packets.Puback a) = true
+keeps_main (packets.Pubrec a) = true
+keeps_main (packets.Pubcomp a) = true
 keeps_main p = false
 
 -- nothing is told by a call, and what changes of the copies is noted

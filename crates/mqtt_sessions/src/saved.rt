@@ -145,6 +145,7 @@ fn keeps_own_row(packet: &Packet) -> bool
             Qos::AtMostOnce | Qos::AtLeastOnce => true,
             Qos::ExactlyOnce => false,
         },
+        Packet::Puback(_) | Packet::Pubrec(_) | Packet::Pubcomp(_) => true,
         Packet::Subscribe(_) | Packet::Unsubscribe(_) | Packet::Pingreq => true,
         _ => false,
     }

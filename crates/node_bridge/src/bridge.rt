@@ -1,8 +1,9 @@
 //! What a node keeps for the other nodes.
-ghost use Rattle.std.specs.Prelude.{◌≡◌, ◌<◌, true, false, None, length, nat_lt, IfOk, IsOk, OnErr, OnOk, if◌then◌else◌};
+ghost use Rattle.std.specs.Prelude.{◌≡◌, ◌<◌, ◌+◌, true, false, None, length, max, nat_lt, IfOk, IsOk, OnErr, OnOk, if◌then◌else◌};
 ghost use Rattle.std.specs.Option.{option_copied};
 ghost use Rattle.causal_context.specs.SetLattice.{IsSubset};
 ghost use Rattle.bridge_deltas.specs.Lane.{first_frames, next_number};
+ghost use Rattle.bridge_deltas.specs.More.{frames_after};
 ghost use Rattle.bridge_deltas.specs.Links.{all_told};
 ghost use Rattle.bridge_lanes.specs.Changes.{now_of, told_of};
 ghost use Rattle.bridge_lanes.specs.Reading.{AreLanes};
@@ -135,6 +136,20 @@ impl Bridge {
         ensures memory { OnErr result (0 < length (lane_to self.now peer).waiting) }
     {
         self.links.waiting_from(from, peer)
+    }
+
+    /// Frames from this node with the messages that wait for the peer under numbers above one: at most 4,096, each as long as fewer than
+    /// 4,194,304 bytes of payload go before it. Only these take memory.
+    pub fn waiting_after(
+        &self,
+        from: u16,
+        peer: u16,
+        after: u64,
+    ) -> Result<Vec<BridgeFrame>, NoMemory>
+        ensures frames { IfOk result (λ out. out.items ≡ frames_after from peer after (lane_to self.now peer)) }
+        ensures memory { let l = lane_to self.now peer in OnErr result (max l.gone after < l.gone + length l.waiting) }
+    {
+        self.links.waiting_after(from, peer, after)
     }
 
     /// How many messages wait for the peer.

@@ -1,7 +1,7 @@
 -- The figures of a node.
 use Rattle.std.specs.Prelude.{◌≡◌, ℕ, ◌-◌, List, length, map, string_bytes}
 use Rattle.std.specs.FinMap as fin_map
-use Rattle.node_figures.specs.Peers.{others, peer_at, seen}
+use Rattle.node_figures.specs.Peers.{address_of, bridge_of, others, peer_at, seen}
 use Rattle.node_work.specs.View.{HeldView, NodeView}
 use Rattle.node_work.specs.declared.counts.Counts.{Counts}
 use Rattle.replica_store.specs.Retained.{with_message}
@@ -27,6 +27,8 @@ left_out counts = record {
 pub record AreFigures (own_name : List ℕ) (since at : ℕ) (n : NodeView) (h : HeldView) (tally : Tally) (f : Figures) : Type 0 where
   pub name : string_bytes f.name ≡ own_name
   pub number : f.number ≡ n.place.id
+  pub address : string_bytes f.address ≡ address_of n.homes n.place.id
+  pub bridge : string_bytes f.bridge ≡ bridge_of n.homes n.place.id
   pub table : f.table ≡ n.homes.version
   pub uptime : f.uptime ≡ at - since
   pub clients : f.clients ≡ clients_of tally

@@ -16,25 +16,31 @@ use Rattle.status_tally.specs.declared.tally.Tally.{Tally}
 pub record Seen : Type 0 where
   pub name : List ℕ
   pub number : ℕ
+  pub address : List ℕ
   pub bridge : List ℕ
   pub linked : Bool
+  pub up : ℕ
   pub away : ℕ
   pub heard : Bool
   pub lacking : ℕ
   pub missing : ℕ
   pub waiting : ℕ
+  pub room : ℕ
 
 abbrev pub seen : Peer → Seen
 seen peer = record {
   name = string_bytes peer.name;
   number = peer.number;
+  address = string_bytes peer.address;
   bridge = string_bytes peer.bridge;
   linked = peer.linked;
+  up = peer.up;
   away = peer.away;
   heard = peer.heard;
   lacking = peer.lacking;
   missing = peer.missing;
   waiting = peer.waiting;
+  room = peer.room;
 }
 
 -- the operations that a node isn't known to have; of whom nothing is known has none
@@ -53,7 +59,11 @@ missing_by taken (Some known) = lacking known taken
 abbrev pub missing_of : HeldView → ℕ → ℕ
 missing_of h peer = missing_by h.store.taken (known_of h.bridge peer)
 
--- for how long there has been no link at a moment, since it failed, or since the node runs
+-- for how long there has been a link at a moment, since it came up, or since the node runs
+abbrev pub up_by : ℕ → ℕ → Link → ℕ
+up_by since at link = if link.up then at - max link.since since else 0
+
+-- for how long there has been none, since it failed, or since the node runs
 abbrev pub away_by : ℕ → ℕ → Link → ℕ
 away_by since at link = if link.up then 0 else at - max link.since since
 
@@ -65,6 +75,10 @@ waiting_of h peer = length (lane_to h.bridge peer).waiting
 abbrev pub name_of : Table → ℕ → List ℕ
 name_of homes number = unwrap_or (option_map (λ n. n.name) (slice_get homes.nodes number)) []
 
+-- the address at which clients reach it
+abbrev pub address_of : Table → ℕ → List ℕ
+address_of homes number = unwrap_or (option_map (λ n. n.address) (slice_get homes.nodes number)) []
+
 -- the address of its bridge
 abbrev pub bridge_of : Table → ℕ → List ℕ
 bridge_of homes number = unwrap_or (option_map (λ n. n.bridge) (slice_get homes.nodes number)) []
@@ -74,13 +88,16 @@ abbrev pub peer_at : Table → HeldView → Tally → ℕ → ℕ → ℕ → Se
 peer_at homes h tally since at number = record {
   name = name_of homes number;
   number = number;
+  address = address_of homes number;
   bridge = bridge_of homes number;
   linked = (link_of number tally).up;
+  up = up_by since at (link_of number tally);
   away = away_by since at (link_of number tally);
   heard = heard_by at (link_of number tally);
   lacking = lacking_of h number;
   missing = missing_of h number;
   waiting = waiting_of h number;
+  room = 65536;
 }
 
 -- the numbers below one, but for a node's own

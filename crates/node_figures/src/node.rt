@@ -4,7 +4,7 @@ ghost use Rattle.std.specs.Prelude.{◌≡◌, Some, IfOk, option_map, string_by
 ghost use Rattle.node_figures.specs.Figures.{AreFigures, left_out};
 ghost use Rattle.node_work.specs.View.{HeldView};
 
-use crate::peers::peers_of;
+use crate::peers::{own_address, own_bridge, peers_of};
 use broker_node::Node;
 use mqtt_fields::NoMemory;
 use node_work::Counts;
@@ -54,6 +54,8 @@ pub fn figures_of(
     ensures figures { IfOk result (λ figures. (h : HeldView) → node.now.up ≡ Some h → AreFigures name.now since at node.now h tally.now figures) }
 {
     let name = String::from_str(alloc, name)?;
+    let address = own_address(alloc, node)?;
+    let bridge = own_bridge(alloc, node)?;
     let refusal = copy_of(alloc, refusal)?;
     let peers = peers_of(alloc, node, tally, since, at)?;
     let refused = tally.refused(alloc)?;
@@ -62,6 +64,8 @@ pub fn figures_of(
     Ok(Figures {
         name,
         number: node.id(),
+        address,
+        bridge,
         table: node.homes().version(),
         refusal,
         uptime: at.saturating_sub(since),

@@ -4,13 +4,15 @@ use Rattle.cli_stops.specs.declared.run_fault.RunFault.TheVariants as runs
 use Rattle.home_table.specs.Table.{Table}
 use Rattle.node_keeper.specs.declared.fault.KeeperFault.{KeeperFault}
 use Rattle.node_keeper.specs.declared.fault.KeeperFault.TheVariants as keepers
+use Rattle.node_keeper.specs.declared.keeper.Keeper.{Keeper}
 use Rattle.node_keeper.specs.Keeping.{HoldsWhatLasts, OpensFromRows}
+use Rattle.node_keeper.specs.Views.{node_of, rows_of}
 use Rattle.node_work.specs.View.{HeldView, NodeView, Place}
 use Rattle.replica_store.specs.States.{State}
 use Rattle.row_store.specs.Rows.{Content}
-use Rattle.table_versions.specs.Newest.{newest_of}
+use Rattle.replica_store.specs.Newest.{newest_of}
 use Rattle.node_server.specs.Faults.{of_node}
-use Rattle.node_server.specs.Opening.{IsNotOlder, IsTableBefore}
+use Rattle.node_server.specs.Opening.{IsNotOlder, IsTableBefore, WasOpened}
 
 -- no fault of a node is that of an older table
 pub never_older : (fault : KeeperFault) (version : ℕ) → of_node fault ≡ runs.OlderTable version → ⊥
@@ -46,3 +48,8 @@ pub is_not_older : (n : NodeView) (id : ℕ) (store : State) (newest : ℕ) → 
 is_not_older n id store newest place is found least h up =
     let same : store ≡ h.store = subst (λ u. MatchOption u (Unit {0}) (λ (v : HeldView). store ≡ v.store)) up is in
     subst (λ v. v ≤ n.homes.version) (found ∙ ap (newest_of id) same ∙ ap (λ i. newest_of i h.store) place) least
+
+-- a node that was opened so
+pub was_opened : {R : Type 0} (is_clean is_open : R → Type 0) (content : R → Content) (p : Place) (homes : Table) (rows : R) (k : Keeper R) → (node_of k).homes ≡ homes → IsNotOlder (node_of k)
+    → (is_clean (rows_of k) → is_open rows → is_open (rows_of k) × OpensFromRows p homes (content rows) (content (rows_of k)) (node_of k)) → WasOpened is_clean is_open content p homes rows
+was_opened is_clean is_open content p homes rows k same newest opens = record { keeper = k; by = same; newest = newest; opens = opens }

@@ -27,6 +27,7 @@ abbrev pub peer_kind_of : PeerEventKind → EventKind
 peer_kind_of (peers.Linked peer) = kinds.Linked peer
 peer_kind_of (peers.Frame bytes) = kinds.Frame bytes.items
 peer_kind_of (peers.Ship peer) = kinds.Ship peer
+peer_kind_of (peers.More peer after) = kinds.More peer after
 
 abbrev pub peer_event_of : PeerEvent → Event
 peer_event_of e = record { at = e.at; kind = peer_kind_of e.kind }

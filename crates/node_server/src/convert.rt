@@ -48,6 +48,7 @@ fn peer_kind_of(kind: PeerEventKind) -> EventKind
             bytes: Bytes::new(bytes),
         },
         PeerEventKind::Ship { peer } => EventKind::Ship { peer },
+        PeerEventKind::More { peer, after } => EventKind::More { peer, after },
     }
 }
 

@@ -11,9 +11,9 @@ use crate::fault::of_node;
 use cli_stops::RunFault;
 use home_table::HomeTable;
 use node_keeper::Keeper;
+use replica_store::newest_of;
 use row_store::RowStore;
 use std::alloc::Global;
-use table_versions::newest_of;
 
 /// Opens a node from its rows, as `Keeper::open` does. A fault gives the rows back.
 ///

@@ -1,10 +1,13 @@
 //! A run of a node over sockets.
 
-ghost use Rattle.std.specs.Prelude.{◌≡◌, ◌++◌, ◌<◌, ◌≤◌, length, is_some, None, IfOk, OnOk};
+ghost use Rattle.std.specs.Prelude.{◌≡◌, ◌⊎◌, ◌++◌, ◌<◌, ◌≤◌, length, is_some, None, IfOk, IsErr, OnOk};
 ghost use Rattle.std.specs.Io.KnownBytes.{Appends};
+ghost use Rattle.node_keeper.specs.Views.{node_of};
 ghost use Rattle.node_server.specs.Losses.{ToldLosses};
+ghost use Rattle.node_server.specs.Opening.{IsNotOlder, WasOpened};
 ghost use Rattle.node_server.specs.Peers.{ArePeers};
 ghost use Rattle.node_server.specs.Printing.{ready_line, turns_line};
+ghost use Rattle.node_work.specs.View.{place_of};
 
 use crate::fault::of_turn;
 use crate::losses::losses_of;
@@ -31,7 +34,7 @@ use home_table::HomeTable;
 use mqtt_fields::NoMemory;
 use node_keeper::Keeper;
 use row_store::RowStore;
-use status_door::{Machine, OpenDesk};
+use status_sockets::{Machine, OpenDesk};
 use status_tally::{Tallied, Tally};
 use std::alloc::Global;
 use std::io::Write;
@@ -179,7 +182,8 @@ fn run_node<
     strain: Option<Rc<Strain>>,
     turns: u64,
 ) -> Result<(), RunFault>
-    requires { length setting.peers.items ≤ 64 }
+    requires few { length setting.peers.items ≤ 64 }
+    requires newest { IsNotOlder (node_of keeper) }
 {
     let nodes = keeper.node().homes().nodes();
     let tally = tally_if(alloc, desk.is_some(), nodes)?;
@@ -215,6 +219,8 @@ fn run_node<
 /// is given for it a log is written there, and what is left out while it runs to another one; where a place is given its status is told there. Where newer
 /// tables of homes may come the node takes them. Whether too much waits for other nodes is told where somebody is to be told.
 ///
+/// It answers a fault and prints nothing, or the node was opened with this table, which isn't older than its rows tell.
+///
 /// The faults in their order: the node's where it can't be opened, also with an older table of homes than its rows tell (`OlderTable`), `Socket` where one of its addresses, another node's
 /// bridge or the status's address isn't an IP address with a port, or can't be waited at, `Output` where a line can't be printed, and the
 /// node's where a turn stops.
@@ -248,7 +254,8 @@ pub fn serve<
     out: &mut W,
 ) -> Result<(), RunFault>
     requires { place.1 < length place.0.nodes }
-    ensures { OnOk result (Appends (W.contents out.old) (W.contents out.new) (ready_line place.0 place.1 ++ turns_line turns)) }
+    ensures printed { OnOk result (Appends (W.contents out.old) (W.contents out.new) (ready_line place.0 place.1 ++ turns_line turns)) }
+    ensures opened { (IsErr result × (out.new ≡ out.old)) ⊎ WasOpened R.is_clean R.is_open R.content (place_of place.1 place.0) place.0 rows }
 {
     let (homes, id) = place;
     let keeper = match open_after(alloc, rows, homes, id) {

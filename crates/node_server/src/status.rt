@@ -10,9 +10,8 @@ use door_guard::Refusals;
 use door_tables::Tables;
 use node_figures::figures_of;
 use row_store::RowStore;
-use status_door::{Machine, OpenDesk, Teller};
 use status_figures::{Figures, NotAllowed};
-use status_sockets::Desk;
+use status_sockets::{Desk, Machine, OpenDesk, Teller};
 use std::alloc::{AllocError, Global};
 use std::hash::RandomState;
 
@@ -82,10 +81,11 @@ impl<R: RowStore, F: Tables, G, E> Teller<TalliedNode<R, F, G, E>> for NodeTelle
         let Some(tally) = handler.tally() else {
             return Ok(None);
         };
-        let tabled = handler.inside().inside().inside().inside().inside();
+        let guarded = handler.inside().inside().inside().inside();
+        let refusals = guarded.refusals();
+        let tabled = guarded.inside();
         let refusal = refusal_of(tabled.tables());
         let node = tabled.inside().node();
-        let refusals = handler.inside().inside().inside().inside().refusals();
         match figures_of(
             alloc,
             self.name.as_str(),

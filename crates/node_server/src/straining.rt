@@ -31,7 +31,8 @@ pub(crate) fn tell_strain(lanes: &mut Option<LaneWatch>, node: &Node, at: u64) {
     };
     let mut strained = false;
     for number in 0..node.homes().nodes() {
-        if lanes.gauge.note(number, node.waiting(number), at) {
+        let stands = lanes.strain.stands(number);
+        if lanes.gauge.note(number, node.waiting(number), stands, at) {
             strained = true;
         }
     }

@@ -10,7 +10,7 @@ use door_bounds::Gauge;
 use door_log::LossLog;
 use door_tables::Tables;
 use row_store::RowStore;
-use status_door::{Machine, OpenDesk, Watcher};
+use status_sockets::{Machine, OpenDesk};
 use std::alloc::Global;
 use std::io::Write;
 

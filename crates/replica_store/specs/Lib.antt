@@ -3,6 +3,7 @@ pub mod Contents
 pub mod Laws
 pub mod Making
 pub mod Merging
+pub mod Newest
 pub mod Operations
 pub mod Retained
 pub mod RetainedLattice

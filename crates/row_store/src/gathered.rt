@@ -1,10 +1,10 @@
 //! Many changes made few: of those at one key the last, or none where it leaves what the first did.
 
-ghost use Rattle.std.specs.Prelude.{◌≡◌, List, [], ◌∷◌, ◌++◌, OnOk, IfOk, IsOk, Ok};
+ghost use Rattle.std.specs.Prelude.{◌≡◌, List, [], ◌∷◌, ◌++◌, OnOk, IfOk, IsOk, IsTrue, Ok};
 ghost use Rattle.row_store.specs.Rows.{Content, Key, after_all};
 ghost use Rattle.row_store.specs.declared.row.Change.{Change as Changed};
 ghost use Rattle.row_store.specs.Gathered.{AreOnce, IsSettled, Settle};
-ghost use Rattle.row_store.specs.Leading.{left_by, or_else};
+ghost use Rattle.row_store.specs.Leading.{key_in, left_by, or_else};
 ghost use Rattle.row_store.specs.Noted.{AreLast, AreNoted, is_noted, noted, noted_pair, pair_of};
 
 use crate::memory::RowKey;
@@ -122,6 +122,26 @@ pub fn last_of_each(alloc: Global, changes: Vec<Change>) -> Result<Vec<Change>, 
     }
 }
 
+/// The kind of the row that the change names.
+fn kind_of(change: &Change) -> u8
+    ensures { result ≡ (key_in change.now).0 }
+{
+    match change {
+        Change::Put(row) => row.kind,
+        Change::Remove(kind, _, _) => *kind,
+    }
+}
+
+/// Whether this is one change alone, of a row of another kind.
+fn is_one_of_others(changes: &[Change], kind: u8) -> bool
+    ensures { IsTrue result → AreOnce changes.now × Settle kind changes.now changes.now }
+{
+    if changes.len() != 1 {
+        return false;
+    }
+    kind_of(&changes[0]) != kind
+}
+
 /// Of the changes at each key the last one, in the order of the keys, but at a key of the kind none where the last leaves what the
 /// first does. Where the changes of rows of the kind begin with what was there, these lead to the rows that all of them lead to,
 /// and name such a row only where it changes. It takes no memory where there are no changes.
@@ -131,6 +151,9 @@ pub fn gather(alloc: Global, changes: Vec<Change>, kind: u8) -> Result<Vec<Chang
     ensures none { changes.items ≡ [] → IsOk result }
 {
     if changes.is_empty() {
+        return Ok(changes);
+    }
+    if is_one_of_others(&changes, kind) {
         return Ok(changes);
     }
     let (befores, lefts) = note_all(alloc, changes, kind)?;

@@ -1,8 +1,8 @@
 //! What the program takes of its machine, as the system tells it.
 
 use door_bounds::{Gauge, PLACE, ProcessMemory};
-use status_door::Machine;
 use status_figures::Usage;
+use status_sockets::Machine;
 use std::alloc::AllocError;
 use std::fs::{self, File};
 use std::io::ErrorKind;

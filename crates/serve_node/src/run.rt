@@ -150,7 +150,18 @@ fn gauge_of(rt: &HostRuntime, bounds: &BoundLimits) -> Option<ProcessMemory<File
     memory_of(rt)
 }
 
-/// Another hold on what the node tells its sockets of what waits for other nodes.
+/// What a node of a cluster of so many nodes and its sockets tell each other of what waits for other nodes, and of the links to them.
+fn strain_of(rt: &HostRuntime, nodes: u16) -> Result<Rc<Strain>, Stop> {
+    let Ok(strain) = Strain::new(rt.alloc(), nodes) else {
+        return Err(Stop::Run(RunFault::NoMemory));
+    };
+    match Rc::new(rt.alloc(), strain) {
+        Ok(strain) => Ok(strain),
+        Err(_) => Err(Stop::Run(RunFault::NoMemory)),
+    }
+}
+
+/// Another hold on that.
 fn shared(strain: &Rc<Strain>) -> Result<Rc<Strain>, Stop> {
     match strain.clone() {
         Ok(strain) => Ok(strain),
@@ -182,9 +193,7 @@ fn serve_rows<R: RowStore + Drop, F: Tables + Drop>(
     let Ok(polled) = PolledSockets::new(rt.alloc(), rt) else {
         return Err(Stop::Run(RunFault::Socket));
     };
-    let Ok(strain) = Rc::new(rt.alloc(), Strain::new()) else {
-        return Err(Stop::Run(RunFault::NoMemory));
-    };
+    let strain = strain_of(rt, place.0.nodes())?;
     let mut refused_here = None;
     let telling = TellingSockets::new(polled, rt.stderr(), shared(&strain)?, &mut refused_here);
     let mut sockets = HoldingSockets::new(rt.alloc(), telling, shared(&strain)?);

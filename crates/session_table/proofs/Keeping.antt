@@ -22,11 +22,11 @@ use Rattle.mqtt_sessions.specs.Asking.{SubscribeStep, answer_by, answer_of, answ
 use Rattle.mqtt_sessions.specs.Ending.{ask_of, end_due, finished, has_run_out, is_due, message_of, passes_will, ticked, ticked_if, timed_out, will_due}
 use Rattle.mqtt_sessions.specs.Packets.{KindStep, PacketIf}
 use Rattle.mqtt_sessions.specs.Reaction.{Reaction, Outcome, answered}
-use Rattle.mqtt_sessions.specs.Saved.{durable_of, is_single, keeps_main}
+use Rattle.mqtt_sessions.specs.Saved.{durable_of, is_single}
 use Rattle.mqtt_sessions.specs.Sending.{QueueIf, is_once}
 use Rattle.mqtt_sessions.specs.State.{State, Link, aliases_of, cut, heard, limit_of}
 use Rattle.law_sessions.specs.Runs.{Event, connects, queues, rooms, takes, answers, closes, ticks, finishes, loses, Reacts}
-use Rattle.session_table.specs.Wants.{is_unexpected, leaves_rows}
+use Rattle.session_table.specs.Wants.{is_unexpected, keeps_durable, leaves_rows}
 
 -- an outcome that leaves what outlives connections
 abbrev Keeps : State → Outcome → Type 0
@@ -61,7 +61,7 @@ subscribe_keeps p limit s r new (inl breaks) = ap durable_of breaks.1.1
 subscribe_keeps p limit s r new (inr keeps) =
     ap durable_of keeps.1.1 ∙ either_keeps (is_some (opened p.identifier s.incoming)) s _ _ (answered_keeps limit (suback p.identifier (replicate (length p.filters) 145)) _ s) refl
 
-kind_keeps : (p : Packet) (now : ℕ) (room : Bool) (limit : ℕ) (s : State) (r : Reaction) (new : State) → keeps_main p ≡ true → KindStep p now room limit s r new → durable_of new ≡ durable_of s
+kind_keeps : (p : Packet) (now : ℕ) (room : Bool) (limit : ℕ) (s : State) (r : Reaction) (new : State) → keeps_durable p ≡ true → KindStep p now room limit s r new → durable_of new ≡ durable_of s
 kind_keeps (packets.Publish p) now room limit s r new is step = ap durable_of step.1 ∙ publish_keeps (refusal (aliases_of s.link) p) p now room limit s is
 kind_keeps (packets.Subscribe p) now room limit s r new is step = subscribe_keeps p limit s r new step
 kind_keeps (packets.Unsubscribe p) now room limit s r new is step =
@@ -105,10 +105,10 @@ either_kind : (keeps unexpected : Bool) (A : Type 0) → (keeps || unexpected) �
 either_kind true unexpected A is f g = f refl
 either_kind false unexpected A is f g = g is
 
-packet_keeps : (l : Option ℕ) (p : Packet) (now : ℕ) (room : Bool) (s : State) (r : Reaction) (new : State) → (not (is_some l) || (keeps_main p || is_unexpected p)) ≡ true → PacketIf l p now room s r new → durable_of new ≡ durable_of s
+packet_keeps : (l : Option ℕ) (p : Packet) (now : ℕ) (room : Bool) (s : State) (r : Reaction) (new : State) → (not (is_some l) || (keeps_durable p || is_unexpected p)) ≡ true → PacketIf l p now room s r new → durable_of new ≡ durable_of s
 packet_keeps None p now room s r new is step = ap durable_of step.1
 packet_keeps (Some limit) p now room s r new is step =
-    either_kind (keeps_main p) (is_unexpected p) (durable_of new ≡ durable_of s) is (λ i. kind_keeps p now room limit (heard s now) r new i step) (λ i. unexpected_keeps p now room limit (heard s now) r new i step)
+    either_kind (keeps_durable p) (is_unexpected p) (durable_of new ≡ durable_of s) is (λ i. kind_keeps p now room limit (heard s now) r new i step) (λ i. unexpected_keeps p now room limit (heard s now) r new i step)
 
 -- ---- codes
 codes_keep : (a : Option Asked) (limit id : ℕ) (codes : List ℕ) (s : State) → Keeps s (answer_by a limit id codes s)

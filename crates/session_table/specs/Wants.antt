@@ -3,7 +3,7 @@ use Rattle.std.specs.Prelude.{◌≡◌, ◌≢◌, ◌⊎◌, ◌||◌, ◌&&�
 use Rattle.mqtt_packets.specs.declared.packet.Packet.{Packet}
 use Rattle.mqtt_packets.specs.declared.packet.Packet.TheVariants as packets
 use Rattle.mqtt_sessions.specs.Reaction.{Reaction}
-use Rattle.mqtt_sessions.specs.Saved.{keeps_main}
+use Rattle.mqtt_sessions.specs.Saved.{is_single}
 use Rattle.mqtt_sessions.specs.Sending.{is_once}
 use Rattle.mqtt_sessions.specs.State.{State, limit_of}
 use Rattle.law_sessions.specs.Runs.{Event, connects, queues, rooms, takes, answers, closes, ticks, finishes, loses, Reacts, wants_of}
@@ -21,13 +21,21 @@ is_unexpected packets.Pingresp = true
 is_unexpected (packets.Auth p) = true
 is_unexpected p = false
 
+-- a packet that leaves the session's own row and its copies as they are
+abbrev pub keeps_durable : Packet → Bool
+keeps_durable (packets.Publish p) = is_single p.qos
+keeps_durable (packets.Subscribe p) = true
+keeps_durable (packets.Unsubscribe p) = true
+keeps_durable packets.Pingreq = true
+keeps_durable p = false
+
 -- a call that leaves the rows of the session as they are, whatever it comes to: a copy at QoS 0; a packet without a connection, and on one
 -- PUBLISH at QoS 0 and 1, SUBSCRIBE, UNSUBSCRIBE, PINGREQ and what is unexpected; codes
 abbrev pub keeps_rows : Event → State → Bool
 keeps_rows (connects c continued room now) s = false
 keeps_rows (queues d now) s = is_once d.qos
 keeps_rows (rooms bytes now) s = false
-keeps_rows (takes p now room) s = not (is_some (limit_of s.link)) || (keeps_main p || is_unexpected p)
+keeps_rows (takes p now room) s = not (is_some (limit_of s.link)) || (keeps_durable p || is_unexpected p)
 keeps_rows (answers id codes) s = true
 keeps_rows (closes now) s = false
 keeps_rows (ticks now) s = false

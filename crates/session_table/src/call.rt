@@ -1,7 +1,7 @@
 //! Calls of a session.
 
 ghost use Rattle.std.specs.Prelude.{◌≡◌, Err, IfOk, IfSome};
-ghost use Rattle.mqtt_sessions.specs.Saved.{NotesIf, keeps_main, state_of};
+ghost use Rattle.mqtt_sessions.specs.Saved.{NotesIf, state_of};
 ghost use Rattle.law_sessions.specs.Sound.{IsSoundEvent};
 ghost use Rattle.law_sessions.specs.Runs.{wants_of};
 ghost use Rattle.session_table.specs.Calls.{Asks, GivesSpelled, IsTurned, MayTurn, event_of, on_of};
@@ -88,9 +88,9 @@ pub(crate) fn is_sound(call: &Call<'_>)
     }
 }
 
-/// Whether a packet leaves what the session's own row has as it is.
-fn keeps_main(packet: &Packet) -> bool
-    ensures { result ≡ keeps_main packet.now }
+/// Whether a packet leaves the session's own row and its copies as they are.
+fn keeps_durable(packet: &Packet) -> bool
+    ensures { result ≡ wants.keeps_durable packet.now }
 {
     match packet {
         Packet::Publish(publish) => match publish.qos {
@@ -124,7 +124,7 @@ pub(crate) fn keeps_rows(call: &Call<'_>, session: &Session) -> bool
     match call {
         Call::Queue { delivery, .. } => is_once(delivery.qos),
         Call::Packet { packet, .. } => {
-            session.limit().is_none() || keeps_main(packet) || is_unexpected(packet)
+            session.limit().is_none() || keeps_durable(packet) || is_unexpected(packet)
         }
         Call::Answer { .. } => true,
         Call::Connect { .. }

@@ -12,7 +12,7 @@ is_equal peer = peer.heard && (peer.lacking == 0 && peer.missing == 0)
 
 -- one more message for it can wait
 abbrev pub has_room : Peer → Bool
-has_room peer = nat_lt peer.waiting 65536
+has_room peer = nat_lt peer.waiting peer.room
 
 abbrev pub agrees : Peer → Bool
 agrees peer = peer.linked && (is_equal peer && has_room peer)

@@ -58,6 +58,10 @@ pub struct NotAllowed {
 pub struct Figures {
     pub name: String,
     pub number: u16,
+    /// The address that its clients are told.
+    pub address: String,
+    /// The address of its bridge.
+    pub bridge: String,
     /// The version of the table of homes that it holds.
     pub table: u32,
     /// Why what is found in the file of the table isn't taken, where it isn't.

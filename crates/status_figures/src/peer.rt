@@ -3,19 +3,20 @@
 ghost use Rattle.std.specs.Prelude.{◌≡◌, ◌==◌, ◌&&◌};
 ghost use Rattle.status_figures.specs.Figures.{agrees, has_room, is_equal};
 
-/// As many messages as may wait for a peer.
-const ROOM: u64 = 65_536;
-
 /// Another node of the cluster.
 #[derive(Drop)]
 pub struct Peer {
     /// Its name in the table of homes.
     pub name: String,
     pub number: u16,
+    /// The address that its clients are told.
+    pub address: String,
     /// The address of its bridge.
     pub bridge: String,
     /// Whether the node has a link to it.
     pub linked: bool,
+    /// For how many milliseconds there has been a link to it; 0 where there is none.
+    pub up: u64,
     /// For how many milliseconds there has been no link to it; 0 where there is one.
     pub away: u64,
     /// Whether it was heard since the node started.
@@ -26,6 +27,8 @@ pub struct Peer {
     pub missing: u64,
     /// How many messages wait for it.
     pub waiting: u64,
+    /// As many messages may wait for it.
+    pub room: u64,
 }
 
 impl Peer {
@@ -40,7 +43,7 @@ impl Peer {
     pub fn has_room(&self) -> bool
         ensures { result ≡ has_room self.now }
     {
-        self.waiting < ROOM
+        self.waiting < self.room
     }
 
     /// Whether it is linked too, and has room.

@@ -3,14 +3,16 @@ use Rattle.std.specs.Prelude.{◌≡◌, ◌≢◌, ℕ, List, codes, Option, So
 use Rattle.status_figures.specs.declared.figures.Figures.{Figures}
 use Rattle.status_figures.specs.Figures.{is_caught_up}
 use Rattle.status_pages.specs.Status.{status_text}
+use Rattle.status_texts.specs.Cluster.{cluster_text}
 use Rattle.status_texts.specs.Metrics.{metrics_text}
 use Rattle.status_texts.specs.Page.{page_text}
 use Rattle.status_texts.specs.Peers.{gate_text}
 use Rattle.status_pages.specs.declared.resource.Resource.{Resource}
-use Rattle.status_pages.specs.declared.resource.Resource.TheVariants.{Page, Metrics, Json, Health, CaughtUp}
+use Rattle.status_pages.specs.declared.resource.Resource.TheVariants.{Page, Cluster, Metrics, Json, Health, CaughtUp}
 
 abbrev pub path_of : Resource → List ℕ
 path_of Page = codes "/"
+path_of Cluster = codes "/cluster"
 path_of Metrics = codes "/metrics"
 path_of Json = codes "/status.json"
 path_of Health = codes "/healthz"
@@ -23,6 +25,7 @@ IsAt path None = (resource : Resource) → path ≢ path_of resource
 
 abbrev pub kind_of : Resource → List ℕ
 kind_of Page = codes "text/html; charset=utf-8"
+kind_of Cluster = codes "text/html; charset=utf-8"
 kind_of Metrics = codes "text/plain; version=0.0.4; charset=utf-8"
 kind_of Json = codes "application/json"
 kind_of Health = codes "text/plain; charset=utf-8"
@@ -35,6 +38,7 @@ status_of _ figures = 200
 
 abbrev pub text_of : Resource → Figures → List ℕ
 text_of Page figures = page_text figures
+text_of Cluster figures = cluster_text figures
 text_of Metrics figures = metrics_text figures
 text_of Json figures = status_text figures
 text_of Health figures = codes "up\n"

@@ -1,5 +1,6 @@
 -- The figures of a node as a JSON object. Each definition `with_..` is a text, and then what it is named for.
-use Rattle.std.specs.Prelude.{ℕ, suc, ◌==◌, not, List, [], ◌∷◌, ◌++◌, codes, if◌then◌else◌}
+use Rattle.std.specs.Prelude.{ℕ, suc, ◌==◌, not, List, [], ◌∷◌, ◌++◌, codes, String, if◌then◌else◌}
+use Rattle.std.specs.declared.alloc.Global.{Global}
 use Rattle.serde_json.specs.Data.{string}
 use Rattle.serde_json.specs.Written.{compact_text}
 use Rattle.status_figures.specs.declared.codes.CodeCount.{CodeCount}
@@ -12,6 +13,10 @@ use Rattle.status_figures.specs.declared.usage.Usage.{Usage}
 use Rattle.status_figures.specs.Figures.{has_room, is_caught_up, is_equal}
 use Rattle.status_pages.specs.Members.{known_text, member, number_member, quoted_text, truth}
 
+-- a text in its quotes
+abbrev pub written : String Global → List ℕ
+written text = compact_text (string text.bytes.items)
+
 -- the next of several
 abbrev pub next : List ℕ → List ℕ → List ℕ
 next key value = member (codes ",") key value
@@ -19,14 +24,21 @@ next key value = member (codes ",") key value
 abbrev pub next_number : List ℕ → ℕ → List ℕ
 next_number key n = number_member (codes ",") key n
 
-unfoldable pub with_node : List ℕ → Figures → List ℕ → List ℕ
-with_node name figures text =
+unfoldable pub with_place : List ℕ → List ℕ → ℕ → List ℕ → List ℕ → List ℕ → List ℕ
+with_place before name number address bridge text =
+    text ++ member before (codes "name") name ++ next_number (codes "number") number ++ next (codes "address") address ++ next (codes "bridge") bridge
+
+unfoldable pub with_node : Figures → List ℕ → List ℕ
+with_node figures text =
     text
-    ++ member (codes "{") (codes "name") name
-    ++ next_number (codes "number") figures.number
     ++ next_number (codes "table") figures.table
     ++ next_number (codes "uptime_milliseconds") figures.uptime
     ++ next (codes "caught_up") (truth (is_caught_up figures))
+
+-- which node it is, and how it stands with it
+abbrev pub with_who : Figures → List ℕ → List ℕ
+with_who figures text =
+    with_node figures (with_place (codes "{") (written figures.name) figures.number (written figures.address) (written figures.bridge) text)
 
 unfoldable pub with_counts : Figures → List ℕ → List ℕ
 with_counts figures text =
@@ -111,10 +123,6 @@ with_traffic figures text =
 unfoldable pub with_refusals : Figures → List ℕ → List ℕ
 with_refusals figures text = with_codes 0 figures.ended.items (with_codes 0 figures.refused.items (text ++ codes ",\"refused\":[") ++ codes "],\"ended\":[")
 
-unfoldable pub with_place : List ℕ → List ℕ → ℕ → List ℕ → List ℕ → List ℕ
-with_place before name number bridge text =
-    text ++ member before (codes "name") name ++ next_number (codes "number") number ++ next (codes "bridge") bridge
-
 unfoldable pub counts_of : Peer → List ℕ
 counts_of peer =
     next_number (codes "lacking") peer.lacking
@@ -127,6 +135,7 @@ unfoldable pub with_state : Peer → List ℕ → List ℕ
 with_state peer text =
     text
     ++ next (codes "linked") (truth peer.linked)
+    ++ next_number (codes "linked_milliseconds") peer.up
     ++ next_number (codes "away_milliseconds") peer.away
     ++ next (codes "heard") (truth peer.heard)
     ++ next (codes "equal") (truth (is_equal peer))
@@ -134,7 +143,7 @@ with_state peer text =
 
 abbrev pub with_peer : ℕ → Peer → List ℕ → List ℕ
 with_peer index peer text =
-    with_state peer (with_place (before_of index) (compact_text (string peer.name.bytes.items)) peer.number (compact_text (string peer.bridge.bytes.items)) text)
+    with_state peer (with_place (before_of index) (written peer.name) peer.number (written peer.address) (written peer.bridge) text)
 
 -- the peers, from the one with this index on
 abbrev pub with_peers : ℕ → List Peer → List ℕ → List ℕ
@@ -146,6 +155,6 @@ abbrev pub status_text : Figures → List ℕ
 status_text figures =
     with_peers 0 figures.peers.items
     (with_refusals figures (with_traffic figures (with_not_allowed figures.not_allowed (with_left_out figures.left_out (with_refusal figures (with_usage figures.usage (with_counts figures
-    (with_node (compact_text (string figures.name.bytes.items)) figures [])))))))
+    (with_who figures [])))))))
     ++ codes "],\"peers\":[")
     ++ codes "]}\n"

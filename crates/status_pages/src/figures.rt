@@ -1,24 +1,33 @@
 //! The figures of a node in JSON.
 
 ghost use Rattle.std.specs.Prelude.{◌≡◌, ◌++◌, codes, string_bytes, IfOk, OnOk};
-ghost use Rattle.status_pages.specs.Status.{status_text, with_clients, with_counts, with_left_out, with_links, with_node, with_not_allowed, with_counts_not_allowed, with_refusal, with_refusals, with_traffic, with_usage};
+ghost use Rattle.status_pages.specs.Status.{status_text, with_clients, with_counts, with_left_out, with_links, with_node, with_not_allowed, with_counts_not_allowed, with_refusal, with_refusals, with_traffic, with_usage, with_who};
 
 use crate::codes::push_codes;
 use crate::members::{known_text, push_member, push_number, quoted, quoted_text, truth};
-use crate::peers::push_peers;
+use crate::peers::{push_peers, push_place};
 use status_figures::{Figures, LeftOut, NotAllowed, Traffic, Usage};
 use std::alloc::{AllocError, Global};
 
-/// The name of the node in its quotes, its number, the version of its table of homes, its uptime, and whether all have caught up.
+/// The version of the node's table of homes, its uptime, and whether all have caught up.
 #[tactic(auto, unfolding(crate::specs::Status::with_node))]
-fn push_node(text: &mut String, name: &str, figures: &Figures) -> Result<(), AllocError>
-    ensures { OnOk result (string_bytes text.new ≡ with_node name.now figures.now (string_bytes text.old)) }
+fn push_node(text: &mut String, figures: &Figures) -> Result<(), AllocError>
+    ensures { OnOk result (string_bytes text.new ≡ with_node figures.now (string_bytes text.old)) }
 {
-    push_member(text, "{", "name", name)?;
-    push_number(text, ",", "number", u64::from(figures.number))?;
     push_number(text, ",", "table", u64::from(figures.table))?;
     push_number(text, ",", "uptime_milliseconds", figures.uptime)?;
     push_member(text, ",", "caught_up", truth(figures.is_caught_up()))
+}
+
+/// Which node it is, and how it stands with it.
+fn push_who(alloc: Global, text: &mut String, figures: &Figures) -> Result<(), AllocError>
+    ensures { OnOk result (string_bytes text.new ≡ with_who figures.now (string_bytes text.old)) }
+{
+    let name = quoted(alloc, &figures.name)?;
+    let address = quoted(alloc, &figures.address)?;
+    let bridge = quoted(alloc, &figures.bridge)?;
+    push_place(text, "{", &name, figures.number, &address, &bridge)?;
+    push_node(text, figures)
 }
 
 /// What it holds.
@@ -151,9 +160,8 @@ fn push_refusals(text: &mut String, figures: &Figures) -> Result<(), AllocError>
 pub fn json_of(alloc: Global, figures: &Figures) -> Result<String, AllocError>
     ensures { IfOk result (λ text. string_bytes text ≡ status_text figures.now) }
 {
-    let name = quoted(alloc, &figures.name)?;
     let mut text = String::new(alloc);
-    push_node(&mut text, &name, figures)?;
+    push_who(alloc, &mut text, figures)?;
     push_counts(&mut text, figures)?;
     push_usage(alloc, &mut text, &figures.usage)?;
     push_refusal(alloc, &mut text, figures)?;

@@ -7,19 +7,21 @@ use crate::members::{before_of, push_member, push_number, quoted, truth};
 use status_figures::Peer;
 use std::alloc::{AllocError, Global};
 
-/// The name of a peer in its quotes, its number, and its bridge in quotes.
+/// The name of a node, its number, and its addresses for clients and for peers; the texts are in their quotes.
 #[tactic(auto, unfolding(crate::specs::Status::with_place))]
-fn push_place(
+pub(crate) fn push_place(
     text: &mut String,
     before: &str,
     name: &str,
     number: u16,
+    address: &str,
     bridge: &str,
 ) -> Result<(), AllocError>
-    ensures { OnOk result (string_bytes text.new ≡ with_place before.now name.now number bridge.now (string_bytes text.old)) }
+    ensures { OnOk result (string_bytes text.new ≡ with_place before.now name.now number address.now bridge.now (string_bytes text.old)) }
 {
     push_member(text, before, "name", name)?;
     push_number(text, ",", "number", u64::from(number))?;
+    push_member(text, ",", "address", address)?;
     push_member(text, ",", "bridge", bridge)
 }
 
@@ -41,6 +43,7 @@ fn push_state(text: &mut String, peer: &Peer) -> Result<(), AllocError>
     ensures { OnOk result (string_bytes text.new ≡ with_state peer.now (string_bytes text.old)) }
 {
     push_member(text, ",", "linked", truth(peer.linked))?;
+    push_number(text, ",", "linked_milliseconds", peer.up)?;
     push_number(text, ",", "away_milliseconds", peer.away)?;
     push_member(text, ",", "heard", truth(peer.heard))?;
     push_member(text, ",", "equal", truth(peer.is_equal()))?;
@@ -52,8 +55,16 @@ fn push_peer(alloc: Global, text: &mut String, index: usize, peer: &Peer) -> Res
     ensures { OnOk result (string_bytes text.new ≡ with_peer index peer.now (string_bytes text.old)) }
 {
     let name = quoted(alloc, &peer.name)?;
+    let address = quoted(alloc, &peer.address)?;
     let bridge = quoted(alloc, &peer.bridge)?;
-    push_place(text, before_of(index), &name, peer.number, &bridge)?;
+    push_place(
+        text,
+        before_of(index),
+        &name,
+        peer.number,
+        &address,
+        &bridge,
+    )?;
     push_state(text, peer)
 }
 

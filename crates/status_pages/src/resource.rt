@@ -7,7 +7,7 @@ ghost use Rattle.status_pages.specs.Resources.{IsAt, kind_of, status_of, text_of
 use crate::json_of;
 use http::{HeaderValue, StatusCode};
 use status_figures::Figures;
-use status_texts::{gate_of, metrics_of, page_of};
+use status_texts::{cluster_of, gate_of, metrics_of, page_of};
 use std::alloc::{AllocError, Global};
 
 /// What can be asked for.
@@ -15,6 +15,8 @@ use std::alloc::{AllocError, Global};
 pub enum Resource {
     /// The page for people, at `/`.
     Page,
+    /// The page of all nodes, as this one knows them, at `/cluster`.
+    Cluster,
     /// The metrics for Prometheus, at `/metrics`.
     Metrics,
     /// The figures as JSON, at `/status.json`.
@@ -32,6 +34,8 @@ impl Resource {
     {
         if path == "/" {
             Some(Resource::Page)
+        } else if path == "/cluster" {
+            Some(Resource::Cluster)
         } else if path == "/metrics" {
             Some(Resource::Metrics)
         } else if path == "/status.json" {
@@ -50,7 +54,9 @@ impl Resource {
         ensures { result ≡ plain_value (kind_of self) }
     {
         match self {
-            Resource::Page => HeaderValue::from_static("text/html; charset=utf-8"),
+            Resource::Page | Resource::Cluster => {
+                HeaderValue::from_static("text/html; charset=utf-8")
+            }
             Resource::Metrics => {
                 HeaderValue::from_static("text/plain; version=0.0.4; charset=utf-8")
             }
@@ -77,6 +83,7 @@ impl Resource {
     {
         match self {
             Resource::Page => page_of(alloc, figures),
+            Resource::Cluster => cluster_of(alloc, figures),
             Resource::Metrics => metrics_of(alloc, figures),
             Resource::Json => json_of(alloc, figures),
             Resource::Health => String::from_str(alloc, "up\n"),

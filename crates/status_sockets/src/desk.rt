@@ -1,9 +1,9 @@
 //! All connections.
 
 ghost use Rattle.std.specs.Prelude.{◌≡◌, ◌-◌, ◌<◌, ◌≤◌, ◌↔◌, length, replicate, string_bytes, None, IfOk, IfSome, IsTrue};
-ghost use Rattle.std.specs.List.{All};
+ghost use Rattle.std.specs.List.{All, list_any};
 ghost use Rattle.status_sockets.specs.Waiting.{IsInTime};
-ghost use Rattle.status_sockets.specs.Desks.{AreInTime, IsFirst, IsSeat, rank_of};
+ghost use Rattle.status_sockets.specs.Desks.{AreInTime, IsFirst, IsSeat, asks_at, rank_of};
 
 use crate::visitor::{PIECE, Visitor};
 use broker_sockets::Sockets;
@@ -73,20 +73,53 @@ fn seat_of<T: Drop>(places: &[Option<Visitor<T>>]) -> usize
     seat
 }
 
-/// Lets the one in this place read, ask and go.
+/// Reads from the one in this place, or lets it go.
+fn hear<S: Sockets>(
+    place: &mut Option<Visitor<S::Stream>>,
+    sockets: &mut S,
+    buffer: &mut [u8],
+    at: u64,
+) {
+    let stays = match place {
+        Some(visitor) => visitor.read(sockets, buffer, at),
+        None => true,
+    };
+    if !stays {
+        *place = None;
+    }
+}
+
+/// Reads from each place in turn.
+fn hear_all<S: Sockets>(places: &mut [Option<Visitor<S::Stream>>], sockets: &mut S, at: u64) {
+    let mut buffer = [0; PIECE];
+    for place in places.iter_mut() {
+        hear(place, sockets, &mut buffer, at);
+    }
+}
+
+/// Whether a request may be there at a place.
+fn asks_at<T: Drop>(place: &Option<Visitor<T>>) -> bool
+    ensures { result ≡ asks_at place.now }
+{
+    match place {
+        Some(visitor) => visitor.asks(),
+        None => false,
+    }
+}
+
+/// Answers the one in this place, or lets it go.
 fn attend<S: Sockets>(
     alloc: Global,
     place: &mut Option<Visitor<S::Stream>>,
     sockets: &mut S,
-    buffer: &mut [u8],
-    figures: &Figures,
+    figures: Option<&Figures>,
     names: &str,
     at: u64,
 )
     ensures { IfSome place.new (λ visitor. IsInTime at visitor.since visitor.begun) }
 {
     let stays = match place {
-        Some(visitor) => visitor.visit(alloc, sockets, buffer, figures, names, at),
+        Some(visitor) => visitor.attend(alloc, sockets, figures, names, at),
         None => true,
     };
     if !stays {
@@ -123,15 +156,14 @@ fn attend_all<S: Sockets>(
     alloc: Global,
     places: &mut [Option<Visitor<S::Stream>>],
     sockets: &mut S,
-    figures: &Figures,
+    figures: Option<&Figures>,
     names: &str,
     at: u64,
 )
     ensures { AreInTime at places.new }
 {
-    let mut buffer = [0; PIECE];
     for place in places.iter_mut() {
-        attend(alloc, place, sockets, &mut buffer, figures, names, at);
+        attend(alloc, place, sockets, figures, names, at);
     }
 }
 
@@ -181,13 +213,27 @@ impl<L: Drop, T: Drop> Desk<L, T> {
         );
     }
 
-    /// Attends to those who are there, at a moment in milliseconds: each reads, is answered by these figures, and is written to,
+    /// Reads from each who is there, at most once, at a moment in milliseconds. Who is gone is let go.
+    pub fn read<S: Sockets<Listener = L, Stream = T>>(&mut self, sockets: &mut S, at: u64)
+        ensures { self.new.listener ≡ self.old.listener }
+    {
+        hear_all(&mut self.places, sockets, at);
+    }
+
+    /// Whether figures are asked for: a request was begun that isn't answered yet, or one was answered and another one may wait behind it.
+    pub fn is_asked(&self) -> bool
+        ensures { result ≡ list_any asks_at self.now.places.items }
+    {
+        self.places.iter().any(|place| asks_at(place))
+    }
+
+    /// Attends to those who are there, at a moment in milliseconds: each is answered by these figures, where there are some, and is written to,
     /// at most once. Who is done or gone is let go, who had no whole request for ten seconds, and who has
     /// begun one two seconds ago that isn't there whole.
     pub fn attend<S: Sockets<Listener = L, Stream = T>>(
         &mut self,
         sockets: &mut S,
-        figures: &Figures,
+        figures: Option<&Figures>,
         at: u64,
     )
         ensures in_time { AreInTime at self.new.places.items }

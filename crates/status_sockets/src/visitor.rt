@@ -2,6 +2,7 @@
 
 ghost use Rattle.std.specs.Prelude.{◌≡◌, ◌≤◌, ◌↔◌, ◌-◌, ◌<◌, length, None, IsTrue};
 ghost use Rattle.http_server.specs.Connection.{history};
+ghost use Rattle.status_sockets.specs.Desks.{asks};
 ghost use Rattle.status_sockets.specs.Waiting.{IsInTime};
 
 use broker_sockets::{Answer, Sockets};
@@ -33,13 +34,26 @@ const CONFIG: Config = Config {
     read_size: 4096,
 };
 
-/// Somebody who is connected, since when there was no whole request, and when one was begun that isn't there whole.
-#[derive(Drop)]
+/// Somebody who is connected, since when there was no whole request, when one was begun that isn't there whole, and whether one was answered when this
+/// was last looked to: then another one may wait behind it.
 pub(crate) struct Visitor<T: Drop> {
     stream: T,
     connection: Connection,
     pub(crate) since: u64,
     pub(crate) begun: Option<u64>,
+    pub(crate) answered: bool,
+}
+
+impl<T: Drop> Drop for Visitor<T> {
+    fn drop(self) {
+        let Visitor {
+            stream: _stream,
+            connection: _connection,
+            since: _since,
+            begun: _begun,
+            answered: _answered,
+        } = self;
+    }
 }
 
 impl<T: Drop> Visitor<T> {
@@ -53,7 +67,15 @@ impl<T: Drop> Visitor<T> {
             connection: Connection::new(alloc, keys, CONFIG),
             since: at,
             begun: None,
+            answered: false,
         }
+    }
+
+    /// Whether a request of it may be there.
+    pub(crate) fn asks(&self) -> bool
+        ensures { result ≡ asks self.now }
+    {
+        self.begun.is_some() || self.answered
     }
 
     /// Whether there was a whole request within ten seconds, and one that was begun isn't older than two.
@@ -79,7 +101,12 @@ impl<T: Drop> Visitor<T> {
     }
 
     /// Takes what has come, at most once. `false`: nothing more can come.
-    fn read<S: Sockets<Stream = T>>(&mut self, sockets: &mut S, buffer: &mut [u8], at: u64) -> bool
+    pub(crate) fn read<S: Sockets<Stream = T>>(
+        &mut self,
+        sockets: &mut S,
+        buffer: &mut [u8],
+        at: u64,
+    ) -> bool
         ensures { self.new.since ≡ self.old.since }
     {
         if !self.connection.wants_read() {
@@ -103,7 +130,8 @@ impl<T: Drop> Visitor<T> {
     fn answer(&mut self, alloc: Global, figures: &Figures, names: &str, at: u64) {
         let mut pages = Pages::new(alloc, figures, names);
         self.connection.advance(&mut pages);
-        if pages.asked() {
+        self.answered = pages.asked();
+        if self.answered {
             self.since = at;
             self.begun = None;
         }
@@ -126,22 +154,20 @@ impl<T: Drop> Visitor<T> {
         }
     }
 
-    /// Reads, answers and writes, each at most once. `false`: the connection is done, gone, or late.
-    pub(crate) fn visit<S: Sockets<Stream = T>>(
+    /// Answers, where there are figures, and writes, at most once. `false`: the connection is done, gone, or late.
+    pub(crate) fn attend<S: Sockets<Stream = T>>(
         &mut self,
         alloc: Global,
         sockets: &mut S,
-        buffer: &mut [u8],
-        figures: &Figures,
+        figures: Option<&Figures>,
         names: &str,
         at: u64,
     ) -> bool
         ensures { IsTrue result → IsInTime at self.new.since self.new.begun }
     {
-        if !self.read(sockets, buffer, at) {
-            return false;
+        if let Some(figures) = figures {
+            self.answer(alloc, figures, names, at);
         }
-        self.answer(alloc, figures, names, at);
         self.write(sockets) && !self.connection.is_done() && self.is_in_time(at)
     }
 }

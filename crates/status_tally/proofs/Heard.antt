@@ -4,7 +4,7 @@ use Rattle.std.specs.Prelude.{◌⊎◌, ◌-◌, nat_le, option_map, if◌then�
 use Rattle.broker_sockets.specs.declared.bridge.Given.{Given}
 use Rattle.broker_sockets.specs.declared.bridge.PeerEvent.{PeerEvent}
 use Rattle.broker_sockets.specs.declared.bridge.PeerEventKind.{PeerEventKind}
-use Rattle.broker_sockets.specs.declared.bridge.PeerEventKind.TheVariants.{Linked, Frame, Ship}
+use Rattle.broker_sockets.specs.declared.bridge.PeerEventKind.TheVariants.{Linked, Frame, More, Ship}
 use Rattle.broker_sockets.specs.declared.events.Event.{Event}
 use Rattle.broker_sockets.specs.declared.events.Output.{Output}
 use Rattle.status_tally.specs.Doors.{IsAnswered, IsHeard, IsSettled}
@@ -76,6 +76,8 @@ by_event : (peer at : ℕ) (kind : PeerEventKind) (links : List Link) → has_fr
 by_event peer at (Linked other) links h =
     inl (sym (same_frame links other peer (after_dial at (link_at other links)) (dial_frame at (link_at other links))) ∙ h)
 by_event peer at (Ship other) links h =
+    inl (sym (same_frame links other peer (after_written at (link_at other links)) (written_frame at (link_at other links))) ∙ h)
+by_event peer at (More other after) links h =
     inl (sym (same_frame links other peer (after_written at (link_at other links)) (written_frame at (link_at other links))) ∙ h)
 by_event peer at (Frame bytes) links h = by_frame peer at bytes.items (head_of bytes.items) links refl h
 

@@ -1,7 +1,7 @@
 -- What is counted of events and of what is given out.
 use Rattle.std.specs.Prelude.{ℕ, ◌+◌, ◌-◌, ◌^◌, min, List, [], ◌∷◌, length}
 use Rattle.broker_sockets.specs.declared.bridge.PeerEventKind.{PeerEventKind}
-use Rattle.broker_sockets.specs.declared.bridge.PeerEventKind.TheVariants.{Linked, Frame, Ship}
+use Rattle.broker_sockets.specs.declared.bridge.PeerEventKind.TheVariants.{Linked, Frame, More, Ship}
 use Rattle.broker_sockets.specs.declared.bridge.PeerFrame.{PeerFrame}
 use Rattle.broker_sockets.specs.declared.events.EventKind.{EventKind}
 use Rattle.broker_sockets.specs.declared.events.EventKind.TheVariants.{Started, Opened, Piece, Room, Closed, Tick}
@@ -28,6 +28,7 @@ with_peer_event (Frame bytes) t = record t {
   frame_bytes_received = more (length bytes.items) t.frame_bytes_received;
 }
 with_peer_event (Ship peer) t = t
+with_peer_event (More peer after) t = t
 
 abbrev pub with_output : Output → Traffic → Traffic
 with_output (Send connection bytes) t = record t {

@@ -3,7 +3,7 @@ use Rattle.std.specs.Prelude.{◌≡◌, ◌↔◌, ◌⊎◌, ℕ, true, option
 use Rattle.broker_sockets.specs.declared.bridge.Given.{Given}
 use Rattle.broker_sockets.specs.declared.bridge.PeerEvent.{PeerEvent}
 use Rattle.broker_sockets.specs.declared.bridge.PeerEventKind.{PeerEventKind}
-use Rattle.broker_sockets.specs.declared.bridge.PeerEventKind.TheVariants.{Linked, Frame, Ship}
+use Rattle.broker_sockets.specs.declared.bridge.PeerEventKind.TheVariants.{Linked, Frame, More, Ship}
 use Rattle.broker_sockets.specs.declared.events.Event.{Event}
 use Rattle.broker_sockets.specs.declared.events.Output.{Output}
 use Rattle.status_tally.specs.Links.{head_of, heard_by}
@@ -40,6 +40,7 @@ abbrev pub IsOf : ℕ → PeerEventKind → Type 0
 IsOf peer (Linked other) = ⊥
 IsOf peer (Frame bytes) = option_map (λ head. head.0) (head_of bytes.items) ≡ Some peer
 IsOf peer (Ship other) = ⊥
+IsOf peer (More other after) = ⊥
 
 abbrev pub Brings : ℕ → Call → Type 0
 Brings peer (handled e outputs) = ⊥

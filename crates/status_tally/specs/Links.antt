@@ -1,7 +1,7 @@
 -- How it stands with the peers.
 use Rattle.std.specs.Prelude.{ℕ, ◌+◌, ◌*◌, ◌-◌, ◌==◌, ◌&&◌, ◌||◌, Bool, true, false, not, nat_le, List, [], ◌∷◌, Option, Some, None, slice_index_or, slice_set, if◌then◌else◌}
 use Rattle.broker_sockets.specs.declared.bridge.PeerEventKind.{PeerEventKind}
-use Rattle.broker_sockets.specs.declared.bridge.PeerEventKind.TheVariants.{Linked, Frame, Ship}
+use Rattle.broker_sockets.specs.declared.bridge.PeerEventKind.TheVariants.{Linked, Frame, More, Ship}
 use Rattle.status_tally.specs.declared.links.Link.{Link}
 
 -- no link yet, and nothing was heard
@@ -42,3 +42,4 @@ abbrev pub links_after : ℕ → PeerEventKind → List Link → List Link
 links_after at (Linked peer) links = slice_set links peer (after_dial at (link_at peer links))
 links_after at (Frame bytes) links = framed at (head_of bytes.items) links
 links_after at (Ship peer) links = slice_set links peer (after_written at (link_at peer links))
+links_after at (More peer after) links = slice_set links peer (after_written at (link_at peer links))

@@ -40,6 +40,7 @@ pub(crate) fn count_peer_event(total: &mut Traffic, kind: &PeerEventKind)
             total.frame_bytes_received = more(total.frame_bytes_received, bytes.len());
         }
         PeerEventKind::Linked { peer: _ } | PeerEventKind::Ship { peer: _ } => {}
+        PeerEventKind::More { peer: _, after: _ } => {}
     }
 }
 

@@ -82,7 +82,7 @@ fn after_dial(link: Link, at: u64) -> Link
     }
 }
 
-/// All is written that was given for a link: it is up.
+/// All was written that was given for a link: it is up.
 fn after_written(link: Link, at: u64) -> Link
     ensures { result ≡ after_written at link }
 {
@@ -160,6 +160,9 @@ impl Links {
         match kind {
             PeerEventKind::Linked { peer } => self.put(*peer, after_dial(self.get(*peer), at)),
             PeerEventKind::Ship { peer } => self.put(*peer, after_written(self.get(*peer), at)),
+            PeerEventKind::More { peer, after: _ } => {
+                self.put(*peer, after_written(self.get(*peer), at));
+            }
             PeerEventKind::Frame { bytes } => {
                 if let Some((peer, tells)) = head_of(bytes) {
                     self.put(peer, after_frame(self.get(peer), at, tells));

@@ -1,3 +1,4 @@
 pub mod Escaping
+pub mod Green
 pub mod Plain
 pub mod Without

@@ -1,3 +1,4 @@
+pub mod Cluster
 pub mod Codes
 pub mod Elsewhere
 pub mod Escapes

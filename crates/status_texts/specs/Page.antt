@@ -14,12 +14,16 @@ use Rattle.status_texts.specs.Peers.{with_peers}
 use Rattle.status_texts.specs.Rows.{size_text, uptime_text, with_loss, with_number, with_row, with_state}
 use Rattle.status_texts.specs.declared.page.TheConstants.{HEAD, STYLE, SCRIPT}
 
-unfoldable pub with_head : List ℕ → List ℕ → List ℕ
-with_head name text =
+-- the head of a page of this title, up to its first line
+unfoldable pub with_top : List ℕ → List ℕ → List ℕ
+with_top title text =
     text
-    ++ HEAD.now ++ name
+    ++ HEAD.now ++ title
     ++ codes "</title>\n<style>" ++ STYLE.now
-    ++ codes "</style>\n</head>\n<body>\n<main>\n<h1>Node " ++ name ++ codes "</h1>\n"
+    ++ codes "</style>\n</head>\n<body>\n<main>\n"
+
+unfoldable pub with_head : List ℕ → List ℕ → List ℕ
+with_head name text = with_top name text ++ codes "<h1>Node " ++ name ++ codes "</h1>\n<nav><a href=\"/cluster\">All nodes</a></nav>\n"
 
 -- a sentence, green, red or in no colour by its class
 unfoldable pub sentence : List ℕ → List ℕ → List ℕ

@@ -1,5 +1,6 @@
 //! Laws of the texts.
 ghost use Rattle.std.specs.Prelude.{List, ℕ};
+ghost use Rattle.status_texts.specs.Cluster.{GreenIsCaughtUp};
 ghost use Rattle.status_texts.specs.Elsewhere.{HeadLookAndScriptNameNoHost};
 ghost use Rattle.status_texts.specs.Escapes.{IsNoMarkup, IsWithinQuotes, escaped, label};
 
@@ -11,6 +12,11 @@ pub fn names_are_no_markup()
 /// Whatever a node is called, its name stays within the quotes of a label.
 pub fn labels_stay_in_their_quotes()
     ensures { (name : List ℕ) → IsWithinQuotes (label name) }
+{}
+
+/// The line on top of a page of the cluster is green only where its node is caught up and has left nothing out.
+pub fn green_cluster_is_caught_up()
+    ensures { GreenIsCaughtUp }
 {}
 
 /// Neither the head of the page nor its look nor its script has `http` or `//` in it, as an address at another host has.

@@ -1,7 +1,7 @@
 //! The page of a node: one document that asks for nothing but itself, and is read without its script.
 
 ghost use Rattle.std.specs.Prelude.{◌≡◌, ◌++◌, string_bytes, IfOk, OnOk};
-ghost use Rattle.status_texts.specs.Page.{apart_words, loss_text, page_text, peers_head, sentence, short_text, untaken_text, untaken_words, verdict_class, verdict_text, with_clients, with_codes, with_dropped, with_files, with_frames_dropped, with_head, with_held, with_links, with_memory, with_node, with_not_allowed, with_tail, with_turns};
+ghost use Rattle.status_texts.specs.Page.{apart_words, loss_text, page_text, peers_head, sentence, short_text, untaken_text, untaken_words, verdict_class, verdict_text, with_clients, with_codes, with_dropped, with_files, with_frames_dropped, with_head, with_held, with_links, with_memory, with_node, with_not_allowed, with_tail, with_top, with_turns};
 
 use crate::codes::push_code_rows;
 use crate::escape::escaped;
@@ -16,47 +16,60 @@ pub(crate) const HEAD: &str =
 
 /// How the page looks.
 pub(crate) const STYLE: &str =
-    "body{font:16px/1.5 system-ui,sans-serif;max-width:46rem;margin:2rem auto;padding:0 1rem;color-scheme:light dark}table{border-collapse:collapse;width:100%;margin:0 0 1.5rem}th,td{text-align:left;padding:.25rem .75rem;border-bottom:1px solid #8884}th{font-weight:normal}th:first-child:nth-last-child(2){width:60%}td{font-variant-numeric:tabular-nums}td:nth-child(2):nth-last-child(4){overflow-wrap:anywhere}h2:not(:has(+table td)),table:not(:has(td)){display:none}p{padding:.75rem;border-radius:.4rem}p.none{background:#8882}.agrees{background:#2a82}.apart{background:#d322}.old{opacity:.4}@media(max-width:40rem){th,td{padding:.25rem;font-size:.85rem}td:first-child{overflow-wrap:anywhere}th:nth-child(2):nth-last-child(4),td:nth-child(2):nth-last-child(4){display:none}}";
+    "body{font:16px/1.5 system-ui,sans-serif;max-width:46rem;margin:2rem auto;padding:0 1rem;color-scheme:light dark}table{border-collapse:collapse;width:100%;margin:0 0 1.5rem}th,td{text-align:left;padding:.25rem .75rem;border-bottom:1px solid #8884}th{font-weight:normal}th:first-child:nth-last-child(2){width:60%}td{font-variant-numeric:tabular-nums}td:nth-child(-n+3):nth-last-child(n+4){overflow-wrap:anywhere}th:nth-child(4):nth-last-child(3){width:18%}th:nth-child(5):nth-last-child(2){width:32%}body:has(td:nth-child(6)){max-width:72rem}h2:not(:has(+table td)),table:not(:has(td)){display:none}p{padding:.75rem;border-radius:.4rem}p.none{background:#8882}.agrees{background:#2a82}.apart{background:#d322}.old{opacity:.4}@media(max-width:40rem){th,td{padding:.25rem;font-size:.85rem}td:first-child{overflow-wrap:anywhere}th:nth-child(2):nth-last-child(4),td:nth-child(2):nth-last-child(4),tr:has(th:nth-child(6)),tr:has(td:nth-child(6)) td:empty{display:none}tr:has(td:nth-child(6)),tr:has(td:nth-child(6)) td:not(:empty){display:block}tr:has(td:nth-child(6)){padding:.4rem 0;border-bottom:1px solid #8884}tr:has(td:nth-child(6)) td{border:0;padding:.1rem .5rem}tr:has(td:nth-child(6)) td:first-child{font-weight:bold}td:nth-child(2):nth-last-child(5)::before{content:'Address: '}td:nth-child(3):nth-last-child(4)::before{content:'Bridge: '}td:nth-child(6)::before{content:'Messages that wait: '}}";
 
 /// Asks every two seconds for the page again, and shows it; it is pale where no answer comes.
 pub(crate) const SCRIPT: &str =
-    "setInterval(async()=>{const shown=document.querySelector('main');try{const answer=await fetch('/',{cache:'no-store'});const page=new DOMParser().parseFromString(await answer.text(),'text/html');shown.replaceWith(page.querySelector('main'))}catch(e){shown.className='old'}},2000)";
+    "setInterval(async()=>{const shown=document.querySelector('main');try{const answer=await fetch(location.pathname,{cache:'no-store'});const page=new DOMParser().parseFromString(await answer.text(),'text/html');shown.replaceWith(page.querySelector('main'))}catch(e){shown.className='old'}},2000)";
 
 /// What stands before the lines of the peers.
 const PEERS: &str =
     "<h2>Peers</h2>\n<table>\n<tr><th>Name</th><th>Bridge</th><th>Link</th><th>State</th><th>Messages that wait</th></tr>\n";
 
-/// The head of the page, and the name of the node, as it stands in HTML.
+/// The head of a page of this title, up to its first line.
+#[tactic(auto, unfolding(crate::specs::Page::with_top))]
+pub(crate) fn push_top(text: &mut String, title: &str) -> Result<(), AllocError>
+    ensures { OnOk result (string_bytes text.new ≡ with_top title.now (string_bytes text.old)) }
+{
+    text.push_str(HEAD)?;
+    text.push_str(title)?;
+    text.push_str("</title>\n<style>")?;
+    text.push_str(STYLE)?;
+    text.push_str("</style>\n</head>\n<body>\n<main>\n")
+}
+
+/// The head, the name of the node as it stands in HTML, and where all nodes are shown.
 #[tactic(auto, unfolding(crate::specs::Page::with_head))]
 fn push_head(text: &mut String, name: &str) -> Result<(), AllocError>
     ensures { OnOk result (string_bytes text.new ≡ with_head name.now (string_bytes text.old)) }
 {
-    text.push_str(HEAD)?;
+    push_top(text, name)?;
+    text.push_str("<h1>Node ")?;
     text.push_str(name)?;
-    text.push_str("</title>\n<style>")?;
-    text.push_str(STYLE)?;
-    text.push_str("</style>\n</head>\n<body>\n<main>\n<h1>Node ")?;
-    text.push_str(name)?;
-    text.push_str("</h1>\n")
+    text.push_str("</h1>\n<nav><a href=\"/cluster\">All nodes</a></nav>\n")
 }
 
 /// A sentence, green, red or in no colour by its class.
 #[tactic(auto, unfolding(crate::specs::Page::sentence))]
-fn push_sentence(text: &mut String, class: &str, words: &str) -> Result<(), AllocError>
+pub(crate) fn push_sentence(text: &mut String, class: &str, words: &str) -> Result<(), AllocError>
     ensures { OnOk result (string_bytes text.new ≡ string_bytes text.old ++ sentence class.now words.now) }
 {
     write!(text, "<p class=\"{class}\">{words}</p>\n")
 }
 
 /// Green only where all is well.
-fn verdict_class(well: bool) -> &'static str
+pub(crate) fn verdict_class(well: bool) -> &'static str
     ensures { result.now ≡ verdict_class well }
 {
     if well { "agrees" } else { "none" }
 }
 
 #[tactic(auto, unfolding(crate::specs::Page::apart_words))]
-fn push_apart_words(text: &mut String, apart: usize, peers: usize) -> Result<(), AllocError>
+pub(crate) fn push_apart_words(
+    text: &mut String,
+    apart: usize,
+    peers: usize,
+) -> Result<(), AllocError>
     ensures { OnOk result (string_bytes text.new ≡ string_bytes text.old ++ apart_words apart peers) }
 {
     write!(
@@ -110,7 +123,7 @@ fn untaken_words(alloc: Global, reason: &str) -> Result<String, AllocError>
 }
 
 /// Why the table of homes in the node's file isn't taken, where it isn't.
-fn push_untaken(
+pub(crate) fn push_untaken(
     alloc: Global,
     text: &mut String,
     refusal: &Option<String>,
@@ -127,7 +140,7 @@ fn push_untaken(
 
 /// Whether the program is short of memory.
 #[tactic(auto, unfolding(crate::specs::Page::short_text))]
-fn push_short(text: &mut String, short: bool) -> Result<(), AllocError>
+pub(crate) fn push_short(text: &mut String, short: bool) -> Result<(), AllocError>
     ensures { OnOk result (string_bytes text.new ≡ string_bytes text.old ++ short_text short) }
 {
     if !short {
@@ -297,7 +310,7 @@ fn push_not_allowed(text: &mut String, not_allowed: &NotAllowed) -> Result<(), A
 
 /// The end of the page, with its script.
 #[tactic(auto, unfolding(crate::specs::Page::with_tail))]
-fn push_tail(text: &mut String) -> Result<(), AllocError>
+pub(crate) fn push_tail(text: &mut String) -> Result<(), AllocError>
     ensures { OnOk result (string_bytes text.new ≡ with_tail (string_bytes text.old)) }
 {
     text.push_str("</main>\n<script>")?;

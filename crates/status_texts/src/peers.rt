@@ -9,7 +9,7 @@ use crate::rows::{push_cell, push_number_cell, push_start, uptime_text};
 use status_figures::{Figures, Peer, Usage};
 use std::alloc::{AllocError, Global};
 
-fn class_of(peer: &Peer) -> &'static str
+pub(crate) fn class_of(peer: &Peer) -> &'static str
     ensures { result.now ≡ class_of peer.now }
 {
     if peer.agrees() { "agrees" } else { "apart" }
@@ -85,7 +85,7 @@ fn room_of(peer: &Peer) -> &'static str
 }
 
 /// How it stands with a peer.
-fn state_of(alloc: Global, peer: &Peer) -> Result<String, AllocError>
+pub(crate) fn state_of(alloc: Global, peer: &Peer) -> Result<String, AllocError>
     ensures { IfOk result (λ text. string_bytes text ≡ state_text peer.now) }
 {
     let mut text = equal_of(alloc, peer)?;

@@ -2,8 +2,7 @@
 
 ghost use Rattle.row_drops.specs.Dropping.{IsInside};
 
-use cli_drops::report;
-use cli_reports::figures_of;
+use cli_reports::{dropped_text, figures_of};
 use row_drops::{Target, changes_of, drop_in};
 use row_store::{Change, MemoryRows, Row, RowFault, RowStore};
 use std::alloc::Global;
@@ -102,7 +101,7 @@ fn leaves(rt: &impl Abort, alloc: Global, target: Target, told: &str, expected: 
 {
     let mut store = store(rt, alloc, &ROWS);
     let changes = drop_in(alloc, &mut store, 1, 2, &target).expect(rt, "a node's rows");
-    let text = report(alloc, &changes).expect(rt, "memory");
+    let text = dropped_text(alloc, &changes).expect(rt, "memory");
     let after = store.load().expect(rt, "memory");
     let opens = figures_of(alloc, &after, 1, 2).is_ok();
     let is = text.as_str() == told && after == rows(rt, alloc, expected);

@@ -9,7 +9,7 @@ use door_tables::NoTables;
 use home_table::{HomeTable, nodes_text};
 use node_server::{ListenAt, StatusPlace, serve};
 use row_store::{Change, MemoryRows, Row, RowStore};
-use status_door::NoMachine;
+use status_sockets::NoMachine;
 use std::alloc::Global;
 use std::process::Abort;
 use std::rc::Rc;
@@ -128,7 +128,8 @@ fn gets(rt: &impl Abort, alloc: Global, publishes: usize, got: &[u8]) -> bool {
     let mut network = FakeSockets::new(alloc);
     let end = network.client(1, &sends, piece, 100).expect(rt, "memory");
     drop(sends);
-    let strain = Rc::new(alloc, Strain::new()).expect(rt, "memory");
+    let strain = Strain::new(alloc, 2).expect(rt, "memory");
+    let strain = Rc::new(alloc, strain).expect(rt, "memory");
     let shared = strain.clone().expect(rt, "memory");
     let mut sockets = HoldingSockets::new(alloc, network, shared);
     let table = homes(alloc).expect(rt, "a table");
@@ -165,5 +166,6 @@ fn gets(rt: &impl Abort, alloc: Global, publishes: usize, got: &[u8]) -> bool {
 fn a_client_that_publishes_waits_for_another_node(rt: HostRuntime) {
     let alloc = rt.alloc();
     assert!(rt; gets(&rt, alloc, 4096, ANSWERED));
-    assert!(rt; gets(&rt, alloc, 4097, WELCOME));
+    // one more may wait for each two milliseconds
+    assert!(rt; gets(&rt, alloc, 4110, WELCOME));
 }

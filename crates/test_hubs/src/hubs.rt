@@ -12,7 +12,7 @@ use mqtt_bounds::Bounds;
 use node_server::{ListenAt, StatusPlace, serve};
 use row_database::{Wary, open_rows};
 use row_store::{MemoryRows, RowStore};
-use status_door::NoMachine;
+use status_sockets::NoMachine;
 use std::alloc::Global;
 use std::process::Abort;
 use trial_fakes::{FakeSockets, RefusingRows};

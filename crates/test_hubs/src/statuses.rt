@@ -8,7 +8,7 @@ use door_tables::NoTables;
 use home_table::homes_of;
 use node_server::{ListenAt, StatusPlace, serve};
 use row_store::MemoryRows;
-use status_door::NoMachine;
+use status_sockets::NoMachine;
 use std::alloc::Global;
 use std::hash::RandomState;
 use std::process::Abort;
@@ -33,13 +33,14 @@ impl Clock for Striding {
     }
 }
 
-/// What is answered to a request at the last of so many nodes, which serves a client: whether it ends so.
-fn ends_so(
+/// What is answered to a request at the last of so many nodes, which serves a client: whether this stands in it, and it ends so.
+fn tells(
     rt: &impl Abort,
     alloc: Global,
     keys: RandomState,
     nodes: u16,
     request: &[u8],
+    part: &[u8],
     end: &[u8],
 ) -> bool {
     let mut network = FakeSockets::new(alloc);
@@ -81,7 +82,8 @@ fn ends_so(
         40,
         &mut out,
     );
-    let all = asked.came(asker).ends_with(end);
+    let came = asked.came(asker);
+    let all = came.ends_with(end) && came.windows(part.len().max(1)).any(|piece| piece == part);
     drop((network, asked, out));
     ended.is_ok() && all
 }
@@ -90,19 +92,35 @@ fn ends_so(
 fn a_node_tells_how_it_is(rt: HostRuntime) {
     let all = b"GET /status.json HTTP/1.1\r\nhost: n1\r\n\r\n".as_slice();
     let gate = b"GET /caught-up HTTP/1.1\r\nhost: n1\r\n\r\n".as_slice();
-    // the other node says nothing, so that it isn't known to have any of the two operations
-    let peers =
-        b"\"peers\":[{\"name\":\"n0\",\"number\":0,\"bridge\":\"127.0.0.1:2883\",\"linked\":true,\"away_milliseconds\":0,\"heard\":false,\"equal\":false,\"lacking\":2,\"missing\":0,\"waiting\":0,\"lane_full\":false}]}\n".as_slice();
-    for (nodes, request, end) in [
-        (2, all, peers),
+    let cluster = b"GET /cluster HTTP/1.1\r\nhost: n1\r\n\r\n".as_slice();
+    for (nodes, request, part, end) in [
+        // the other node says nothing, so that it isn't known to have any of the two operations
+        (
+            2,
+            all,
+            b"\"peers\":[{\"name\":\"n0\",\"number\":0,\"address\":\"127.0.0.1:1883\",\"bridge\":\"127.0.0.1:2883\",\"linked\":true,".as_slice(),
+            b",\"away_milliseconds\":0,\"heard\":false,\"equal\":false,\"lacking\":2,\"missing\":0,\"waiting\":0,\"lane_full\":false}]}\n".as_slice(),
+        ),
         (
             2,
             gate,
+            b"HTTP/1.1 503 ".as_slice(),
             b"\r\n\r\nnot caught up\nn0: linked, not heard since the start\n".as_slice(),
         ),
-        (1, gate, b"\r\n\r\ncaught up\n".as_slice()),
+        (
+            2,
+            cluster,
+            b"<td>not heard since the start</td><td>0</td></tr>\n</table>\n".as_slice(),
+            b"</script>\n</body>\n</html>\n".as_slice(),
+        ),
+        (
+            1,
+            gate,
+            b"HTTP/1.1 200 ".as_slice(),
+            b"\r\n\r\ncaught up\n".as_slice(),
+        ),
     ] {
         let keys = RandomState::new(&rt).expect(&rt, "keys");
-        assert!(rt; ends_so(&rt, rt.alloc(), keys, nodes, request, end));
+        assert!(rt; tells(&rt, rt.alloc(), keys, nodes, request, part, end));
     }
 }

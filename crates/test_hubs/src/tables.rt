@@ -7,7 +7,7 @@ use door_tables::Tables;
 use home_table::{HomeTable, homes_of, nodes_text};
 use node_server::{ListenAt, StatusPlace, serve};
 use row_store::MemoryRows;
-use status_door::NoMachine;
+use status_sockets::NoMachine;
 use std::alloc::Global;
 use std::process::Abort;
 use trial_fakes::FakeSockets;

@@ -30,6 +30,9 @@ const PIECES: usize = 64;
 /// How many frames there are for one Ship: what the other node may lack, and the first of the messages that wait for it.
 const SHIPPED: usize = 65;
 
+/// How many there are for one More at most: the same, and as many messages as go at once.
+const MOST: usize = 4_097;
+
 /// At node 1 `a` has subscribed and is gone, `b` has subscribed at node 0, and `c` is connected.
 fn begin(rt: &impl Abort, alloc: Global, keeper: &mut Keeper<MemoryRows>) {
     connect(rt, alloc, keeper, ANEW);
@@ -71,6 +74,10 @@ fn what_is_behind_a_full_queue_and_a_full_lane_is_left_out_and_counted(rt: HostR
     assert_eq!(rt; left_out(&keeper), (0, 0, 0));
     let ship = EventKind::Ship { peer: 0 };
     assert_eq!(rt; outputs(&rt, &mut keeper, ship), SHIPPED);
+    for (after, count) in [(64, MOST), (61_440, MOST), (61_441, 4_096), (65_536, 1)] {
+        let more = EventKind::More { peer: 0, after };
+        assert_eq!(rt; outputs(&rt, &mut keeper, more), count, "after {after}");
+    }
     let messages = messages(&rt, alloc, 1);
     assert_eq!(rt; outputs(&rt, &mut keeper, messages), 1);
     assert_eq!(rt; left_out(&keeper), (1, 1, 0));

@@ -8,10 +8,10 @@ use std::io::Write;
 use std::process::Abort;
 
 /// CONNECT of `b`, whose home of two nodes is node 0.
-const CONNECT_B: &[u8] = b"\x10\x0e\0\x04MQTT\x05\x02\0\x3c\0\0\x01b";
+pub const CONNECT_B: &[u8] = b"\x10\x0e\0\x04MQTT\x05\x02\0\x3c\0\0\x01b";
 
 /// PUBLISH of `x` to `t` at QoS 1.
-const PUBLISH: &[u8] = b"\x32\x07\0\x01t\0\x07\0x";
+pub const PUBLISH: &[u8] = b"\x32\x07\0\x01t\0\x07\0x";
 
 /// In how many groups `b` is a member, and the length of each filter but the last: the longest that a string has.
 const LONG: usize = 32;
@@ -43,7 +43,7 @@ const UNSUBSCRIBE: &[u8] = b"\xa2\x13\0\x02\0\0\x0e$share/00000/t";
 const SHORT: usize = 14;
 
 /// A packet of this kind with its rest, of 128 bytes or more.
-fn packet(rt: &impl Abort, alloc: Global, first: u8, rest: &[u8]) -> Vec<u8> {
+pub fn packet(rt: &impl Abort, alloc: Global, first: u8, rest: &[u8]) -> Vec<u8> {
     let length = rest.len();
     let mut bytes = Vec::from_slice(alloc, &[first]).expect(rt, "memory");
     let low = [(length % 128 + 128) as u8, (length / 128 % 128) as u8];
@@ -92,7 +92,7 @@ fn member(rt: &impl Abort, alloc: Global, last: usize) -> Node {
 }
 
 /// Node 1, whose client `a` is connected.
-fn publisher(rt: &impl Abort, alloc: Global) -> Node {
+pub fn publisher(rt: &impl Abort, alloc: Global) -> Node {
     let mut node = started(rt, alloc, 1);
     connect(rt, alloc, &mut node, 1, CONNECT);
     node

@@ -12,6 +12,8 @@ mod frames;
 #[cfg(test)]
 mod keepers;
 #[cfg(test)]
+mod lanes;
+#[cfg(test)]
 mod last_numbers;
 #[cfg(test)]
 mod limits;

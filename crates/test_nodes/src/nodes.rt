@@ -71,6 +71,28 @@ pub fn last_shipped(rt: &impl Abort, node: &mut Node, peer: u16) -> Frame {
     last(rt, outputs)
 }
 
+/// The frames that an event comes to, where it comes to nothing else.
+pub fn frames(rt: &impl Abort, alloc: Global, node: &mut Node, kind: EventKind) -> Vec<Frame> {
+    let mut frames = Vec::new(alloc);
+    for output in given(rt, node, kind) {
+        let Output::Frame { frame } = output else {
+            panic!(rt; "no frame");
+        };
+        frames.push(frame).expect(rt, "memory");
+    }
+    frames
+}
+
+/// Frames come, in order: how many outputs they have together.
+pub fn take_all(rt: &impl Abort, alloc: Global, node: &mut Node, frames: &Vec<Frame>) -> usize {
+    let mut total = 0usize;
+    for frame in frames {
+        let bytes = frame.bytes.copy(alloc).expect(rt, "memory");
+        total = total.saturating_add(count(rt, node, EventKind::Frame { bytes }));
+    }
+    total
+}
+
 /// A frame comes: how many outputs that has.
 pub fn take(rt: &impl Abort, node: &mut Node, frame: Frame) -> usize {
     let Frame { bytes, .. } = frame;

@@ -14,7 +14,7 @@ use mio::net::{TcpListener, TcpStream};
 use node_keeper::{Keeper, KeeperFault};
 use node_server::{ListenAt, ServedNode, StatusPlace, serve};
 use row_store::MemoryRows;
-use status_door::NoMachine;
+use status_sockets::NoMachine;
 use std::alloc::Global;
 use std::net::SocketAddr;
 use std::process::Abort;

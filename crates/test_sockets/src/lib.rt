@@ -15,6 +15,7 @@ mod moments;
 #[cfg(test)]
 mod nodes;
 #[cfg(test)]
+#[cfg(test)]
 mod ready;
 #[cfg(test)]
 mod real;

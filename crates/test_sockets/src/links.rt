@@ -146,21 +146,40 @@ fn peers_are_dialled_until_they_answer(rt: HostRuntime) -> Result<(), Fail> {
     is_dialled(&rt, alloc, 2, (6, 500), (3, 1, 0), b"hi");
     is_dialled(&rt, alloc, 2, (7, 500), (3, 1, 1), b"him");
     is_dialled(&rt, alloc, 2, (10, 500), (3, 1, 1), b"himore");
-    is_dialled(&rt, alloc, 2, (11, 500), (3, 1, 2), b"himorem");
+    // all is asked for once
+    is_dialled(&rt, alloc, 2, (12, 500), (3, 1, 1), b"himore");
     is_dialled(&rt, alloc, 0, (6, 1), (1, 1, 1), b"himore");
-    is_dialled(&rt, alloc, 0, (7, 1), (1, 1, 2), b"himorem");
+    is_dialled(&rt, alloc, 0, (8, 1), (1, 1, 1), b"himore");
     Ok(())
 }
 
-/// A Forward, a Delta and a Hello of node 1 for node 0, as far as a hub looks at them.
-const FORWARD: &[u8] = b"\0\0\0\x05\x04\0\x01\0\0";
+/// Forwards of node 1 for node 0 with these numbers, a Delta and a Hello, as far as a hub looks at them.
+const SEVENTH: &[u8] = b"\0\0\0\x0d\x04\0\x01\0\0\0\0\0\0\0\0\0\x07";
+
+const LAST_BUT_ONE: &[u8] = b"\0\0\0\x0d\x04\0\x01\0\0\0\0\0\0\0\0\x3f\xff";
+
+const LAST: &[u8] = b"\0\0\0\x0d\x04\0\x01\0\0\0\0\0\0\0\0\x40\0";
 
 const DELTA: &[u8] = b"\0\0\0\x05\x06\0\x01\0\0";
 
 const HELLO: &[u8] = b"\0\0\0\x05\x01\0\x01\0\0";
 
-/// How often a peer was given this frame in so many turns, a millisecond after each other, where a link brings these bytes after five.
-fn supplied(rt: &impl Abort, alloc: Global, frame: &'static [u8], bytes: &[u8], turns: u64) -> u32 {
+/// Gots of node 0, which is the peer, and a Know.
+const GOT_ONE: &[u8] = b"\0\0\0\x0d\x05\0\0\0\x01\0\0\0\0\0\0\0\x01";
+
+const GOT_SEVEN: &[u8] = b"\0\0\0\x0d\x05\0\0\0\x01\0\0\0\0\0\0\0\x07";
+
+const KNOW: &[u8] = b"\0\0\0\x05\x03\0\0\0\x01";
+
+/// How often a peer is given this frame in so many turns, a millisecond after each other, where a link brings these bytes after five; how often
+/// more is asked for than was given, and after which number last.
+fn supplied(
+    rt: &impl Abort,
+    alloc: Global,
+    frame: &'static [u8],
+    bytes: &[u8],
+    turns: u64,
+) -> (u32, u32, u64) {
     let mut network = FakeSockets::new(alloc);
     let peer: SocketAddr = "127.0.0.1:9".parse().expect(rt, "an address");
     let peers = Vec::from_array(alloc, [Some(peer)]).expect(rt, "memory");
@@ -174,37 +193,34 @@ fn supplied(rt: &impl Abort, alloc: Global, frame: &'static [u8], bytes: &[u8], 
         assert!(rt; hub.turn(&mut network, &mut talker, at).is_ok());
     }
     drop(network);
-    talker.shipped
+    (talker.shipped, talker.more_asked, talker.after)
 }
 
 #[test]
-fn a_peer_is_given_more_once_it_has_answered(rt: HostRuntime) -> Result<(), Fail> {
+fn a_peer_is_given_more_than_it_was_given(rt: HostRuntime) -> Result<(), Fail> {
     let alloc = rt.alloc();
-    // a Got and a Know of node 0, which is the peer, as far as a hub looks at them; the third is the shortest that says so
-    let answers = [
-        b"\0\0\0\x05\x05\0\0\0\x01".as_slice(),
-        b"\0\0\0\x05\x03\0\0\0\x01",
-        b"\0\0\0\x03\x05\0\0",
+    let cases = [
+        (SEVENTH, b"".as_slice(), 2, (1, 0, 0)),
+        (SEVENTH, b"", 9, (1, 7, 7)),
+        // fewer than 16,384 messages are unconfirmed
+        (LAST_BUT_ONE, b"", 9, (1, 7, 16383)),
+        (LAST, b"", 9, (1, 0, 0)),
+        (LAST, GOT_ONE, 9, (1, 3, 16384)),
+        // the answer to a Delta is waited for
+        (DELTA, b"", 9, (1, 0, 0)),
+        (DELTA, GOT_ONE, 9, (1, 0, 0)),
+        (DELTA, KNOW, 9, (1, 3, 0)),
+        // what nobody answers isn't
+        (HELLO, b"", 9, (1, 7, 0)),
     ];
-    for (turns, times) in [(2, 1), (6, 1), (7, 2), (1006, 2), (1007, 3)] {
-        for bytes in answers {
-            for frame in [FORWARD, DELTA] {
-                assert_eq!(rt;
-                    supplied(&rt, alloc, frame, bytes, turns),
-                    times,
-                    "{turns} turns"
-                );
-            }
-        }
+    for (frame, bytes, turns, wanted) in cases {
+        assert!(rt; supplied(&rt, alloc, frame, bytes, turns) == wanted);
     }
-    // what nobody answers isn't waited for
-    assert_eq!(rt; supplied(&rt, alloc, HELLO, b"", 2), 1);
-    assert_eq!(rt; supplied(&rt, alloc, HELLO, b"", 9), 8);
     Ok(())
 }
 
 #[test]
-fn a_silent_peer_is_given_more_after_a_second(rt: HostRuntime) -> Result<(), Fail> {
+fn a_silent_peer_is_given_all_after_a_second(rt: HostRuntime) -> Result<(), Fail> {
     let alloc = rt.alloc();
     // no answer: one of node 1, one of node 256, one that says of no node that it is the sender, one that isn't whole, and a Hello, a Forward and a Delta of
     // node 0
@@ -220,12 +236,19 @@ fn a_silent_peer_is_given_more_after_a_second(rt: HostRuntime) -> Result<(), Fai
     ];
     for (turns, times) in [(1001, 1), (1002, 2)] {
         for bytes in others {
-            assert_eq!(rt;
-                supplied(&rt, alloc, FORWARD, bytes, turns),
-                times,
-                "{turns} turns"
-            );
+            let (shipped, _, _) = supplied(&rt, alloc, SEVENTH, bytes, turns);
+            assert_eq!(rt; shipped, times, "{turns} turns");
         }
+    }
+    // a second after the last answer, as long as one is owed
+    for (bytes, turns, times) in [
+        (GOT_ONE, 1006, 1),
+        (GOT_ONE, 1007, 2),
+        (KNOW, 1007, 2),
+        (GOT_SEVEN, 1007, 1),
+    ] {
+        let (shipped, _, _) = supplied(&rt, alloc, SEVENTH, bytes, turns);
+        assert_eq!(rt; shipped, times, "{turns} turns");
     }
     Ok(())
 }

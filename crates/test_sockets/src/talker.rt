@@ -5,7 +5,7 @@ use broker_sockets::{
 };
 use std::alloc::Global;
 
-/// Says something on each link that is begun, and so often something more where it is asked; keeps the frames that it hears,
+/// Says something on each link that is begun, and so often something more where it is asked for all; keeps the frames that it hears,
 /// each with `/` behind it.
 pub struct Talker {
     alloc: Global,
@@ -17,6 +17,9 @@ pub struct Talker {
     pub heard: Vec<u8>,
     pub linked: u32,
     pub shipped: u32,
+    /// How often it was asked for more than was given, and after which number last.
+    pub more_asked: u32,
+    pub after: u64,
 }
 
 impl Drop for Talker {
@@ -30,6 +33,8 @@ impl Drop for Talker {
             heard: _heard,
             linked: _,
             shipped: _,
+            more_asked: _,
+            after: _,
         } = self;
     }
 }
@@ -49,6 +54,8 @@ impl Talker {
             heard: Vec::new(alloc),
             linked: 0,
             shipped: 0,
+            more_asked: 0,
+            after: 0,
         }
     }
 
@@ -124,6 +131,11 @@ impl BridgeHandler for Talker {
                 }
                 self.shipped = self.shipped.saturating_add(1);
                 self.gives(peer, self.more)
+            }
+            PeerEventKind::More { peer: _, after } => {
+                self.more_asked = self.more_asked.saturating_add(1);
+                self.after = after;
+                Ok(self.silence())
             }
             PeerEventKind::Frame { bytes } => self.keeps(&bytes),
         }

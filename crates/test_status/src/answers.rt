@@ -2,6 +2,7 @@
 
 use crate::figures::{equal_peer, figures, well};
 use crate::turns::{desk, make};
+use status_figures::Figures;
 use std::alloc::Global;
 use std::hash::RandomState;
 use std::process::Abort;
@@ -10,7 +11,7 @@ use trial_fakes::FakeSockets;
 /// A request, how its answer begins, and how it ends.
 type Case = (&'static str, &'static str, &'static str);
 
-const CASES: [Case; 12] = [
+const CASES: [Case; 13] = [
     (
         "GET /healthz HTTP/1.1\r\nhost: n0\r\n\r\n",
         "HTTP/1.1 200 OK\r\ncontent-type: text/plain; charset=utf-8\r\ncache-control: no-store\r\ncontent-length: 3\r\n\r\n",
@@ -38,6 +39,11 @@ const CASES: [Case; 12] = [
     ),
     (
         "GET / HTTP/1.1\r\nhost: n0\r\n\r\n",
+        "HTTP/1.1 200 OK\r\ncontent-type: text/html; charset=utf-8\r\n",
+        "</script>\n</body>\n</html>\n",
+    ),
+    (
+        "GET /cluster HTTP/1.1\r\nhost: n0\r\n\r\n",
         "HTTP/1.1 200 OK\r\ncontent-type: text/html; charset=utf-8\r\n",
         "</script>\n</body>\n</html>\n",
     ),
@@ -73,17 +79,30 @@ const CASES: [Case; 12] = [
     ),
 ];
 
-/// What comes to a client that sends these bytes.
-fn answer(rt: &impl Abort, alloc: Global, keys: RandomState, asks: &[u8]) -> Vec<u8> {
+/// What comes to a client that sends these bytes to a node with these figures.
+fn answer_by(
+    rt: &impl Abort,
+    alloc: Global,
+    keys: RandomState,
+    told: &Figures,
+    asks: &[u8],
+) -> Vec<u8> {
     let mut network = FakeSockets::new(alloc);
     let mut desk = desk(rt, alloc, keys, &mut network);
-    let told = figures(rt, alloc, 5);
     let end = network.client(1, asks, 4096, 65536).expect(rt, "memory");
-    make(&mut desk, &mut network, &told, (0, 10));
+    make(&mut desk, &mut network, told, (0, 10));
     let mut came = Vec::new(alloc);
     came.extend_from_slice(network.came(end))
         .expect(rt, "memory");
-    drop((desk, network, told));
+    drop((desk, network));
+    came
+}
+
+/// The same of a node with two peers, of which the second lacks five operations.
+fn answer(rt: &impl Abort, alloc: Global, keys: RandomState, asks: &[u8]) -> Vec<u8> {
+    let told = figures(rt, alloc, 5);
+    let came = answer_by(rt, alloc, keys, &told, asks);
+    drop(told);
     came
 }
 
@@ -246,6 +265,35 @@ fn what_misleads_is_told(rt: HostRuntime) {
     let part =
         ",\"tables_refused\":27},\"not_allowed\":{\"publishes\":51,\"filters\":52,\"messages\":53},\"since_start\":{";
     assert!(rt; contains(&json, part.as_bytes()));
+}
+
+#[test]
+fn the_cluster_is_shown(rt: HostRuntime) {
+    let alloc = rt.alloc();
+    let keys = RandomState::new(&rt).expect(&rt, "keys");
+    let asks = b"GET /cluster HTTP/1.1\r\nhost: n0\r\n\r\n".as_slice();
+    let apart = figures(&rt, alloc, 5);
+    let page = answer_by(&rt, alloc, keys, &apart, asks);
+    for part in [
+        "<title>The cluster, as n0 knows it</title>",
+        "<p class=\"apart\">The cluster is not caught up, as far as this node knows. Apart: 1 of 2 peers (not linked, not heard, with other operations, or with a full lane).</p>",
+        "<p class=\"apart\">The table of homes in the file of this node is not taken: line &lt;4&gt;.</p>",
+        "<tr class=\"apart\"><td><a href=\"/\">n0</a></td><td>127.0.0.1:1883</td><td>127.0.0.1:2883</td><td>this node</td><td>up for 1 d 2 h 3 min 4 s, table version 3, clients: 11, sessions: 12, has left something out</td><td></td></tr>\n",
+        "<tr class=\"agrees\"><td>n1</td><td>127.0.0.1:1884</td><td>127.0.0.1:2884</td><td>linked for 0 d 0 h 1 min 5 s</td><td>equal</td><td>0</td></tr>\n",
+        "<tr class=\"apart\"><td>&lt;b&gt;&amp;&quot;n2\\</td><td>127.0.0.1:1885</td><td>127.0.0.1:2885</td><td>linked for 0 d 2 h 7 min 34 s</td><td>lacking operations: 5, more than here: 0</td><td>7</td></tr>\n",
+    ] {
+        assert!(rt; contains(&page, part.as_bytes()));
+    }
+    drop((apart, page));
+    let caught_up = well(&rt, alloc);
+    let page = answer_by(&rt, alloc, keys, &caught_up, asks);
+    for part in [
+        "<p class=\"agrees\">The cluster is caught up, as far as this node knows: each node is linked, was heard, and has what this node has.</p>",
+        "<tr class=\"agrees\"><td><a href=\"/\">n0</a></td>",
+    ] {
+        assert!(rt; contains(&page, part.as_bytes()));
+    }
+    drop((caught_up, page));
 }
 
 #[test]

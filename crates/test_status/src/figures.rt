@@ -27,13 +27,16 @@ pub(crate) fn equal_peer(rt: &impl Abort, alloc: Global) -> Peer {
     Peer {
         name: text(rt, alloc, "n1"),
         number: 1,
+        address: text(rt, alloc, "127.0.0.1:1884"),
         bridge: text(rt, alloc, "127.0.0.1:2884"),
         linked: true,
+        up: 65_432,
         away: 0,
         heard: true,
         lacking: 0,
         missing: 0,
         waiting: 0,
+        room: 65_536,
     }
 }
 
@@ -42,13 +45,16 @@ fn lacking_peer(rt: &impl Abort, alloc: Global, lacking: u64) -> Peer {
     Peer {
         name: text(rt, alloc, "<b>&\"n2\\"),
         number: 2,
+        address: text(rt, alloc, "127.0.0.1:1885"),
         bridge: text(rt, alloc, "127.0.0.1:2885"),
         linked: true,
+        up: 7_654_321,
         away: 0,
         heard: true,
         lacking,
         missing: 0,
         waiting: 7,
+        room: 65_536,
     }
 }
 
@@ -69,6 +75,8 @@ pub(crate) fn figures(rt: &impl Abort, alloc: Global, lacking: u64) -> Figures {
     Figures {
         name: text(rt, alloc, "n0"),
         number: 0,
+        address: text(rt, alloc, "127.0.0.1:1883"),
+        bridge: text(rt, alloc, "127.0.0.1:2883"),
         table: 3,
         refusal: Some(text(rt, alloc, "line <4>")),
         uptime: 93_784_567,

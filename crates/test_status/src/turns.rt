@@ -21,7 +21,7 @@ pub(crate) fn desk(
     Desk::new(alloc, keys, port, "status.example,n0.example").expect(rt, "memory")
 }
 
-/// Makes turns at these moments.
+/// Makes turns at these moments, with figures where they are asked for.
 pub(crate) fn make(
     desk: &mut Desk<u16, usize>,
     network: &mut FakeSockets,
@@ -30,7 +30,9 @@ pub(crate) fn make(
 ) {
     for at in from..to {
         desk.let_in(network, at);
-        desk.attend(network, figures, at);
+        desk.read(network, at);
+        let told = if desk.is_asked() { Some(figures) } else { None };
+        desk.attend(network, told, at);
     }
 }
 

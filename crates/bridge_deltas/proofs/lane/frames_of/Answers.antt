@@ -1,8 +1,6 @@
-use Rattle.std.proofs.Common.{◌≡◌, suc, ◌+◌, ◌<◌, min, length, drop, ap, ◌∙◌, arith, rules}
+use Rattle.std.proofs.Common.{suc, ◌+◌, ◌<◌, length, arith, rules}
 use Rattle.std.proofs.lemmas.Grind.{common_steps}
-use Rattle.std.proofs.Common.{length-drop}
-use Rattle.bridge_deltas.specs.Lane.{frames_from}
-use Rattle.bridge_deltas.proofs.Framing.{first_taken, more_frames}
+use Rattle.bridge_deltas.proofs.Framing.{more_frames}
 use Rattle.bridge_deltas.proofs.lane.frames_of.Goals as goal
 
 pub of-requires : goal.of-requires
@@ -15,8 +13,3 @@ loop-i-preserved c =
     let inside : c.args.place + c.loop-i.i < length c.args.messages.now.items = first_of (search rules, grind (arith, common_steps)) in
     more_frames c.args.from c.args.to (suc c.args.gone) c.of.result c.args.messages.now.items c.args.place c.loop-i.i c.index.result.now c.in_ok-message.message c.loop-i.out.items c.push.new.self.items
     (omega (arith, c.of.ensures)) inside c.loop-i.invariant c.index.ensures c.in_ok-message.ensures c.in_ok-push.ensures.items
-
-pub returns-clause-frames : goal.returns-clause-frames
-returns-clause-frames c =
-    let all : c.loop-i.i ≡ min (length (drop c.args.place c.args.messages.now.items)) 64 = first_of (omega (arith, length-drop c.args.place c.args.messages.now.items), grind (arith, common_steps)) in
-    c.loop-i.invariant ∙ ap (λ ms. frames_from c.args.from c.args.to (suc c.args.gone) ms) (first_taken 64 c.loop-i.i (drop c.args.place c.args.messages.now.items) all)

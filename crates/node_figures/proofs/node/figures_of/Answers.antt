@@ -22,6 +22,8 @@ returns-clause-figures c =
     record {
       name = c.in_ok-name.ensures.ok;
       number = c.id.ensures;
+      address = c.in_ok-address.ensures;
+      bridge = c.in_ok-bridge.ensures;
       table = c.version.ensures ∙ ap (λ (t : Table). t.version) c.homes.ensures;
       uptime = search rules;
       clients = c.clients.ensures;

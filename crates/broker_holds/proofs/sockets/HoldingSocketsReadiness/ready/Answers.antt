@@ -1,4 +1,4 @@
-use Rattle.std.proofs.Common.{◌≡◌, ◌∙◌, ◌++◌, ap, refl, subst, sym}
+use Rattle.std.proofs.Common.{◌∙◌, ◌++◌, ap, refl, subst, sym}
 use Rattle.std.specs.BTreeMap.{get}
 use Rattle.std.specs.Ordering.{nat_cmp}
 use Rattle.broker_holds.specs.Holding.{forgotten}
