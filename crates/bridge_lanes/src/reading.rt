@@ -10,10 +10,10 @@ ghost use Rattle.mqtt_fields.specs.Reading.{Finds};
 ghost use Rattle.bridge_lanes.specs.Reading.{AreLanesOf, AreMessages, AreNumbers, AreParts, IsLaneOf, IsMessage, IsMessageRow, IsPeers, StartsApart, lane_in};
 ghost use Rattle.bridge_lanes.specs.Rows.{message_key, numbers_key, numbers_value, owner};
 
-use crate::row::{MESSAGE, NUMBERS};
 use bridge_frames::Forward;
 use mqtt_fields::{FieldFault, NUMBERS_END, are_bytes, u16_at, u64_at};
 use row_store::Row;
+use row_store::kinds::{MESSAGE, NUMBERS};
 use std::alloc::Global;
 use std::collections::VecDeque;
 

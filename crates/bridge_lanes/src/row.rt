@@ -9,15 +9,10 @@ ghost use Rattle.bridge_lanes.specs.Rows as spec;
 
 use bridge_frames::Forward;
 use mqtt_fields::{NoMemory, put_u16, put_u64};
+use row_store::kinds::{MESSAGE, NUMBERS};
 use row_store::{Change, Row};
 use std::alloc::Global;
 use std::collections::VecDeque;
-
-/// The kind of a message's row.
-pub(crate) const MESSAGE: u8 = 7;
-
-/// The kind of the row of a lane's numbers.
-pub(crate) const NUMBERS: u8 = 8;
 
 fn owner_of(alloc: Global, peer: u16) -> Result<Vec<u8>, NoMemory>
     ensures { IfOk result (λ bytes. bytes.items ≡ spec.owner peer) }

@@ -5,10 +5,8 @@ ghost use Rattle.cli_reports.specs.Dropped.{is_of_session, told};
 
 use mqtt_fields::NoMemory;
 use row_store::Change;
+use row_store::kinds::SESSION;
 use std::alloc::Global;
-
-/// The kind of a session's own row.
-const SESSION: u8 = 2;
 
 /// Whether a change is of a session's own row.
 fn is_of_session(change: &Change) -> bool

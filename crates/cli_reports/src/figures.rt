@@ -13,11 +13,9 @@ use causal_context::Context;
 use mqtt_fields::NoMemory;
 use node_rows::{Opened, open};
 use replica_store::newest_of;
+use row_store::kinds::MESSAGE;
 use row_store::{Row, RowFault};
 use std::alloc::Global;
-
-/// The kind of a message that waits for another node.
-const WAITING: u8 = 7;
 
 /// What a node's rows hold.
 #[derive(Debug, PartialEq, Eq, Drop)]
@@ -50,7 +48,7 @@ fn is_for(owner: &[u8], node: u16) -> bool
 fn is_message_for(row: &Row, node: u16) -> bool
     ensures { result ≡ is_message_for node (entry_of row.now) }
 {
-    row.kind == WAITING && is_for(&row.owner, node)
+    row.kind == MESSAGE && is_for(&row.owner, node)
 }
 
 /// How many of the rows are messages that wait for the node.

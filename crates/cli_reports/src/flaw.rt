@@ -9,9 +9,7 @@ ghost use Rattle.cli_reports.specs.Flaws.{flaw_in, flaw_of, marked_flaw};
 
 use mqtt_fields::{FieldFault, u16_at, u64_at};
 use row_store::Row;
-
-/// The kind of a node's mark.
-const MARK: u8 = 1;
+use row_store::kinds::MARK;
 
 /// Why rows that are no node's aren't, by the mark that they begin with.
 #[derive(Clone, Copy, Debug, PartialEq, Eq)]

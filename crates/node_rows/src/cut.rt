@@ -6,15 +6,7 @@ ghost use Rattle.row_store.specs.Rows.{entry_of, key_cmp};
 ghost use Rattle.node_rows.specs.Reading.{IsCut};
 
 use row_store::Row;
-
-/// The kind of a session's own row.
-const SESSION: u8 = 2;
-
-/// The kind of a copy's row.
-const COPY: u8 = 3;
-
-/// The last of the kinds of the state's rows.
-const STATE: u8 = 6;
+use row_store::kinds::{CONTEXT, COPY, SESSION};
 
 // How many rows at the front are of kinds up to this one.
 fn up_to(rows: &[Row], kind: u8) -> usize
@@ -39,6 +31,6 @@ pub(crate) fn cut(rows: &[Row]) -> (&[Row], &[Row], &[Row], &[Row])
 {
     let (own, later) = rows.split_at(up_to(rows, SESSION));
     let (copies, last) = later.split_at(up_to(later, COPY));
-    let (state, lanes) = last.split_at(up_to(last, STATE));
+    let (state, lanes) = last.split_at(up_to(last, CONTEXT));
     (own, copies, state, lanes)
 }

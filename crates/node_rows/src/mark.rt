@@ -8,10 +8,8 @@ ghost use Rattle.node_rows.specs.Rows.{mark, mark_key, marked};
 
 use mqtt_fields::{FieldFault, NUMBERS_END, NoMemory, are_bytes, put_u16, put_u64, u16_at, u64_at};
 use row_store::Row;
+use row_store::kinds::MARK;
 use std::alloc::Global;
-
-/// The kind of the mark.
-pub const MARK: u8 = 1;
 
 /// The version of the rows.
 pub(crate) const VERSION: u16 = 3;

@@ -13,10 +13,11 @@ ghost use Rattle.row_store.specs.Rows.{entry_of, key_cmp, key_of, Plain};
 ghost use Rattle.node_rows.specs.Versions as spec;
 ghost use Rattle.node_rows.specs.Versions.{AreOlder, AreRaising, Raise, SaysOlder, dots_said, raised, raised_all, raised_each, seen_key, seen_value};
 
-use crate::mark::{MARK, VERSION, whole_mark};
+use crate::mark::{VERSION, whole_mark};
 use causal_context::{Context, Lattice};
 use mqtt_fields::{FieldFault, NoMemory, are_bytes, put_u16, put_u32};
-use replica_rows::{CONTEXT, SEEN, TAKEN, context_row};
+use replica_rows::{SEEN, TAKEN, context_row};
+use row_store::kinds::{CONTEXT, MARK, SUBSCRIPTION};
 use row_store::{Change, Row};
 use std::alloc::Global;
 use std::cmp::Ordering;
@@ -26,9 +27,6 @@ const FIRST: u16 = 1;
 
 /// The version of rows in which dots that were taken aren't all among those that were seen.
 const SECOND: u16 = 2;
-
-/// The kind of a subscription's row.
-const SUBSCRIPTION: u8 = 4;
 
 fn is_older_version(version: u16) -> bool
     ensures { IsTrue result ↔ ((version ≡ 1) ⊎ (version ≡ 2)) }

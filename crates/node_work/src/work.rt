@@ -50,14 +50,12 @@ use mqtt_sessions::{Output as SessionOutput, Publication, Reaction, SessionFault
 use mqtt_topics::Filter;
 use node_rows::{Opened, mark_row};
 use replica_store::{Content, ReplicaStore};
+use row_store::kinds::SESSION;
 use row_store::{Change, gather};
 use session_table::Addressed;
 use std::alloc::Global;
 use std::marker::Model;
 use subscription_set::Entry;
-
-/// The kind of a session's own row.
-const SESSION: u8 = 2;
 
 /// A node at work: its place, what it holds, and what it has given out so far.
 pub struct Work {

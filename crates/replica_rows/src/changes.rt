@@ -11,15 +11,14 @@ ghost use Rattle.replica_rows.specs.Changes.{AreChanges, LeadBetween};
 ghost use Rattle.replica_rows.specs.Rows.{AreRowsOf};
 ghost use Rattle.replica_rows.specs.Steps.{AddsContext, AddsDue, AddsLeaving, AddsRemovals, AddsSubscriptions, AddsTopics, Leaves};
 
-use crate::row::{
-    SEEN, SUBSCRIPTION, TAKEN, context_row, place_of, retained_row, subscription_row,
-};
+use crate::row::{SEEN, TAKEN, context_row, place_of, retained_row, subscription_row};
 use causal_context::{Context, Dot, Lattice};
 use mqtt_fields::NoMemory;
 use mqtt_topics::TopicName;
 use replica_bytes::kept_fits;
 use replica_store::{Kept, ReplicaStore};
 use row_store::Change;
+use row_store::kinds::SUBSCRIPTION;
 use std::alloc::Global;
 use subscription_set::Entry;
 

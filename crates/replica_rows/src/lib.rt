@@ -10,4 +10,4 @@ mod row;
 pub use changes::{changes_by, puts_of};
 pub use listing::rows;
 pub use reading::from_rows;
-pub use row::{CONTEXT, SEEN, TAKEN, context_row};
+pub use row::{SEEN, TAKEN, context_row};

@@ -15,12 +15,13 @@ ghost use Rattle.replica_rows.specs.Memory.{FirstWants, RowWants, RowsWant};
 ghost use Rattle.replica_rows.specs.Reading.{AreAllRowsOf, AreOfNone, IsStore};
 
 use crate::laws::is_store;
-use crate::row::{CONTEXT, RETAINED, SEEN, SUBSCRIPTION, TAKEN};
+use crate::row::{SEEN, TAKEN};
 use causal_context::{Context, Dot, Lattice};
 use mqtt_fields::{FieldFault, NoMemory, Text, are_bytes};
 use mqtt_topics::{TopicFault, TopicName};
 use replica_bytes::{content_of, dot_at, entry_of as entry_at, kept_at};
 use replica_store::{Kept, ReplicaStore, RetainedMap, StoreFault};
+use row_store::kinds::{CONTEXT, RETAINED, SUBSCRIPTION};
 use row_store::{Row, are_rising};
 use std::alloc::Global;
 use std::collections::BTreeMap;

@@ -10,15 +10,9 @@ use mqtt_topics::TopicName;
 use replica_bytes::{write_dot, write_kept, write_subscription};
 use replica_store::Kept;
 use row_store::Row;
+use row_store::kinds::{CONTEXT, RETAINED, SUBSCRIPTION};
 use std::alloc::Global;
 use subscription_set::Entry;
-
-/// The kinds of the rows.
-pub const SUBSCRIPTION: u8 = 4;
-
-pub const RETAINED: u8 = 5;
-
-pub const CONTEXT: u8 = 6;
 
 /// The places of the dots that were taken, and of those that were seen.
 pub const TAKEN: u8 = 1;

@@ -8,17 +8,9 @@ ghost use Rattle.row_drops.specs.Dropping.{edit, ended_value, is_waiting, lane_e
 
 use crate::target::Target;
 use mqtt_fields::{NoMemory, put_u16};
+use row_store::kinds::{COPY, MESSAGE, SESSION};
 use row_store::{Change, Row};
 use std::alloc::Global;
-
-/// The kind of a session's own row.
-const SESSION: u8 = 2;
-
-/// The kind of a copy's row.
-const COPY: u8 = 3;
-
-/// The kind of a message that waits for another node.
-const WAITING: u8 = 7;
 
 /// How a session's own row begins whose client left for good at the moment 0.
 const ENDED: [u8; 13] = [0, 0, 0, 0, 1, 0, 0, 0, 0, 0, 0, 0, 0];
@@ -108,7 +100,7 @@ fn lane_edit(alloc: Global, node: u16, row: &Row) -> Result<Option<Change>, NoMe
 {
     let mut owner = Vec::new(alloc);
     put_u16(node, &mut owner)?;
-    if row.kind == WAITING && row.owner == owner {
+    if row.kind == MESSAGE && row.owner == owner {
         let value = Vec::from_slice(alloc, &NOBODY)?;
         Ok(Some(put(row, value)?))
     } else {

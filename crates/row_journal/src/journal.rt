@@ -9,8 +9,9 @@ ghost use Rattle.row_journal.specs.Spelling as spec;
 ghost use Rattle.row_journal.specs.Tops.{Allows, Covers, Grows, IsKept};
 
 use crate::repeats::without_repeats;
-use crate::spelled::{JOURNAL, spell_turn, whole_len};
+use crate::spelled::{spell_turn, whole_len};
 use crate::tops::{Tops, needed, take_changes};
+use row_store::kinds::JOURNAL;
 use row_store::{Change, Row, last_of_each};
 use std::alloc::{AllocError, Global};
 

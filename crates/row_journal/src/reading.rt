@@ -13,9 +13,9 @@ ghost use Rattle.row_journal.specs.Reading.{AreTurns, IsEntry, IsRead, IsSpelled
 
 use crate::items::turn_at;
 use crate::journal::{Journal, are_plain, total_len};
-use crate::spelled::JOURNAL;
 use crate::tops::take_rows;
 use mqtt_fields::{FieldFault, are_bytes, u64_at};
+use row_store::kinds::JOURNAL;
 use row_store::{Change, Row, RowFault, RowStore};
 use std::alloc::Global;
 use std::collections::BTreeMap;

@@ -5,7 +5,7 @@ ghost use Rattle.std.specs.List.{AllByRecursion};
 ghost use Rattle.row_store.specs.Cells.{cell_at, plain_key};
 ghost use Rattle.row_journal.specs.Tops.{Allows, AllowsRow, Grows, IsIdle, IsNeeded, is_within, may_have};
 
-use crate::spelled::JOURNAL;
+use row_store::kinds::JOURNAL;
 use row_store::memory::RowKey;
 use row_store::{Change, Row};
 use std::alloc::{AllocError, Global};

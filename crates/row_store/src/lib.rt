@@ -6,6 +6,7 @@
 
 pub mod change_laws;
 pub mod gathered;
+pub mod kinds;
 pub mod memory;
 pub mod row;
 pub mod store;

@@ -15,15 +15,10 @@ use crate::reachable::is_reachable;
 use mqtt_fields::{FieldFault, NUMBERS_END, Text, are_bytes, u64_at};
 use mqtt_message::{Message, Will};
 use qos_handshakes::{Entry, Incoming, Outgoing};
+use row_store::kinds::{COPY, SESSION};
 use row_store::{Row, RowFault};
 use std::alloc::Global;
 use std::marker::Model;
-
-/// The kind of a session's own row.
-pub(crate) const SESSION: u8 = 2;
-
-/// The kind of a copy's row.
-pub(crate) const COPY: u8 = 3;
 
 /// A session as its rows say, without a connection.
 #[derive(Drop)]

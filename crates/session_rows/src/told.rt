@@ -13,9 +13,9 @@ ghost use Rattle.session_rows.specs.Rows.{copy_key, copy_rows, main_key, row_at,
 ghost use Rattle.std.specs.Prelude.{IfOk, Some, None, option_map};
 
 use crate::copy::write_copy;
-use crate::session::{COPY, SESSION};
 use mqtt_fields::{NoMemory, Text, put_u64};
 use qos_handshakes::{Entry, Outgoing};
+use row_store::kinds::{COPY, SESSION};
 use row_store::{Change, Row};
 use std::alloc::Global;
 use std::marker::Model;

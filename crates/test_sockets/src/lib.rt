@@ -15,7 +15,6 @@ mod moments;
 #[cfg(test)]
 mod nodes;
 #[cfg(test)]
-#[cfg(test)]
 mod ready;
 #[cfg(test)]
 mod real;

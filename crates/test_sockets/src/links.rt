@@ -185,7 +185,7 @@ fn supplied(
     let peers = Vec::from_array(alloc, [Some(peer)]).expect(rt, "memory");
     let mut hub = hub_of(rt, alloc, &mut network, peers);
     let mut talker = Talker::new(alloc, b"hi", frame, u32::MAX);
-    let other = network.client(2, b"", 9, 9).expect(rt, "memory");
+    let other = network.client(2, b"", 64, 64).expect(rt, "memory");
     for at in 0..turns {
         if at == 5 {
             network.send(other, bytes).expect(rt, "memory");

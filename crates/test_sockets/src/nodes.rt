@@ -17,12 +17,13 @@ const ALL: [&[u8]; 2] = [
     b"\0\0\0\x03+\0\0/\0\0\0\x03s\0\0/\0\0\0\x03s\0\0/\0\0\0\x03s\0\0/",
 ];
 
-/// Node 0 and node 1, each of which says `+` on each link that is begun, and three times `s`.
+/// Node 0 and node 1, each of which says `+` on each link that is begun, and three times `s`: where it is asked for all, and twice more.
 fn talkers(alloc: Global) -> (Talker, Talker) {
-    (
-        Talker::new(alloc, b"\0\0\0\x03+\0\0", b"\0\0\0\x03s\0\0", 3),
-        Talker::new(alloc, b"\0\0\0\x03+\0\x01", b"\0\0\0\x03s\0\x01", 3),
-    )
+    let mut first = Talker::new(alloc, b"\0\0\0\x03+\0\0", b"\0\0\0\x03s\0\0", 3);
+    let mut second = Talker::new(alloc, b"\0\0\0\x03+\0\x01", b"\0\0\0\x03s\0\x01", 3);
+    first.extra = 2;
+    second.extra = 2;
+    (first, second)
 }
 
 /// The address of a port of this machine.

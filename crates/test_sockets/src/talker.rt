@@ -5,8 +5,8 @@ use broker_sockets::{
 };
 use std::alloc::Global;
 
-/// Says something on each link that is begun, and so often something more where it is asked for all; keeps the frames that it hears,
-/// each with `/` behind it.
+/// Says something on each link that is begun, and so often something more where it is asked for all, or for more than that; keeps the frames that
+/// it hears, each with `/` behind it.
 pub struct Talker {
     alloc: Global,
     says: &'static [u8],
@@ -14,6 +14,8 @@ pub struct Talker {
     left: u32,
     /// So many bytes are said on each link that is begun, behind the rest.
     pub long: usize,
+    /// So often something more is said where more is asked for than was given.
+    pub extra: u32,
     pub heard: Vec<u8>,
     pub linked: u32,
     pub shipped: u32,
@@ -30,6 +32,7 @@ impl Drop for Talker {
             more: _,
             left: _,
             long: _,
+            extra: _,
             heard: _heard,
             linked: _,
             shipped: _,
@@ -51,6 +54,7 @@ impl Talker {
             more,
             left,
             long: 0,
+            extra: 0,
             heard: Vec::new(alloc),
             linked: 0,
             shipped: 0,
@@ -132,10 +136,13 @@ impl BridgeHandler for Talker {
                 self.shipped = self.shipped.saturating_add(1);
                 self.gives(peer, self.more)
             }
-            PeerEventKind::More { peer: _, after } => {
+            PeerEventKind::More { peer, after } => {
                 self.more_asked = self.more_asked.saturating_add(1);
                 self.after = after;
-                Ok(self.silence())
+                if self.more_asked > self.extra {
+                    return Ok(self.silence());
+                }
+                self.gives(peer, self.more)
             }
             PeerEventKind::Frame { bytes } => self.keeps(&bytes),
         }
