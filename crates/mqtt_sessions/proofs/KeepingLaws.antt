@@ -26,7 +26,7 @@ use Rattle.mqtt_sessions.specs.Arriving.{refusal, message_in, setting, publish_b
 use Rattle.mqtt_sessions.specs.Asking.{SubscribeStep}
 use Rattle.mqtt_sessions.specs.Packets.{GoesOnAfter, KindStep, PacketIf, PacketStep, PubackStep, PubcompStep, PubrecBy, PubrecStep}
 use Rattle.mqtt_sessions.specs.Reaction.{Reaction, Outcome, answered}
-use Rattle.mqtt_sessions.specs.Saved.{IsFresh, closed_of, is_single, keeps_main, main_of}
+use Rattle.mqtt_sessions.specs.Saved.{IsFresh, closed_of, is_single, keeps_own_row, main_of}
 use Rattle.mqtt_sessions.specs.Sending.{GoesOn, RoomStep, SendsAll, StopsIf}
 use Rattle.mqtt_sessions.specs.State.{State, Tracked, aliases_of, heard, limit_of, room_less, with_outbox}
 
@@ -139,7 +139,7 @@ pubrec_keeps id reason now limit s r new step =
     pubrec_by step.answer id reason now limit s step.mid r new step.goes_on (received_keeps _ s.outbox id reason step.answer step.mid step.takes)
 
 -- ---- each kind of packet
-kind_keeps : (p : Packet) (now : ℕ) (room : Bool) (limit : ℕ) (s : State) (r : Reaction) (new : State) → keeps_main p ≡ true → KindStep p now room limit s r new → main_of new ≡ main_of s
+kind_keeps : (p : Packet) (now : ℕ) (room : Bool) (limit : ℕ) (s : State) (r : Reaction) (new : State) → keeps_own_row p ≡ true → KindStep p now room limit s r new → main_of new ≡ main_of s
 kind_keeps (packets.Publish p) now room limit s r new is step = ap main_of step.1 ∙ publish_keeps (refusal (aliases_of s.link) p) p now room limit s is
 kind_keeps (packets.Subscribe p) now room limit s r new is step = subscribe_keeps p limit s r new step
 kind_keeps (packets.Unsubscribe p) now room limit s r new is step =
@@ -157,11 +157,11 @@ kind_keeps packets.Pingresp now room limit s r new is step = absurd (false≢tru
 kind_keeps (packets.Disconnect p) now room limit s r new is step = absurd (false≢true is)
 kind_keeps (packets.Auth p) now room limit s r new is step = absurd (false≢true is)
 
-by_limit : (l : Option ℕ) (p : Packet) (now : ℕ) (room : Bool) (s : State) (r : Reaction) (new : State) → keeps_main p ≡ true → PacketIf l p now room s r new → main_of new ≡ main_of s
+by_limit : (l : Option ℕ) (p : Packet) (now : ℕ) (room : Bool) (s : State) (r : Reaction) (new : State) → keeps_own_row p ≡ true → PacketIf l p now room s r new → main_of new ≡ main_of s
 by_limit None p now room s r new is step = ap main_of step.1
 by_limit (Some limit) p now room s r new is step = kind_keeps p now room limit (heard s now) r new is step
 
-pub packet_keeps : (p : Packet) (now : ℕ) (room : Bool) (s : State) (r : Reaction) (new : State) → keeps_main p ≡ true → PacketStep p now room s r new → main_of new ≡ main_of s
+pub packet_keeps : (p : Packet) (now : ℕ) (room : Bool) (s : State) (r : Reaction) (new : State) → keeps_own_row p ≡ true → PacketStep p now room s r new → main_of new ≡ main_of s
 packet_keeps p now room s r new is step = by_limit (limit_of s.link) p now room s r new is step
 
 -- what is known to be as it was told stays so where nothing of it changes

@@ -85,15 +85,15 @@ is_single AtMostOnce = true
 is_single AtLeastOnce = true
 is_single ExactlyOnce = false
 
-abbrev pub keeps_main : Packet → Bool
-keeps_main (packets.Publish p) = is_single p.qos
-keeps_main (packets.Subscribe p) = true
-keeps_main (packets.Unsubscribe p) = true
-keeps_main packets.Pingreq = true
-keeps_main (packets.Puback a) = true
-keeps_main (packets.Pubrec a) = true
-keeps_main (packets.Pubcomp a) = true
-keeps_main p = false
+abbrev pub keeps_own_row : Packet → Bool
+keeps_own_row (packets.Publish p) = is_single p.qos
+keeps_own_row (packets.Subscribe p) = true
+keeps_own_row (packets.Unsubscribe p) = true
+keeps_own_row packets.Pingreq = true
+keeps_own_row (packets.Puback a) = true
+keeps_own_row (packets.Pubrec a) = true
+keeps_own_row (packets.Pubcomp a) = true
+keeps_own_row p = false
 
 -- nothing is told by a call, and what changes of the copies is noted
 pub record Notes (old new : Saved) : Type 0 where

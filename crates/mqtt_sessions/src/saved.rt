@@ -16,7 +16,7 @@ ghost use Rattle.mqtt_packets.specs.Written.{HasSpelling};
 ghost use Rattle.mqtt_sessions.specs.Packets.{PacketEnds, PacketStep, WantsMemory};
 ghost use Rattle.mqtt_sessions.specs.Reaction.{AreSpelled};
 ghost use Rattle.mqtt_sessions.specs.Sending.{QueueEnds, QueueStep, QueueWants, RoomStep, RoomWants};
-ghost use Rattle.mqtt_sessions.specs.Saved.{Appends, Notes, Tells, begun_session, durable_of, main_of, keeps_main, own_before, told_before, told_of, tracked_in};
+ghost use Rattle.mqtt_sessions.specs.Saved.{Appends, Notes, Tells, begun_session, durable_of, main_of, keeps_own_row, own_before, told_before, told_of, tracked_in};
 
 use crate::fault::SessionFault;
 use crate::kept::Kept;
@@ -138,7 +138,7 @@ fn push_told(
 
 /// Whether a packet leaves what the session's own row has as it is.
 fn keeps_own_row(packet: &Packet) -> bool
-    ensures { result ≡ keeps_main packet.now }
+    ensures { result ≡ keeps_own_row packet.now }
 {
     match packet {
         Packet::Publish(publish) => match publish.qos {

@@ -1,16 +1,13 @@
 -- How many exchanges were opened on a connection, call by call.
 use Rattle.std.proofs.Common.{◌≡◌, ◌⊎◌, ℕ, ◌+◌, true, false, cond, [], ◌∷◌, Option, Some, None, refl, sym, ◌∙◌, ap, arith, inl, inr, map}
-use Rattle.std.specs.Prelude.{Bool, is_some, nat_le, ◌<◌, ◌≤◌, List, ◌++◌}
-use Rattle.std.proofs.lemmas.Bool.Decides.{nat_tests}
-use Rattle.std.specs.BTreeMap.Range.{range_contains, entries_between}
-use Rattle.std.specs.declared.ops.Bound.TheVariants.{Included, Unbounded}
+use Rattle.std.specs.Prelude.{Bool, is_some, ◌<◌, ◌≤◌, List, ◌++◌}
 use Rattle.std.proofs.lemmas.Bool.{cases_Bool, false≢true}
 use Rattle.std.specs.BTreeMap.{is_at, insert_entry}
 use Rattle.std.specs.Map.{remove_entry, keys_of}
 use Rattle.std.specs.Ordering.{nat_cmp}
 use Rattle.std.specs.declared.cmp.Ordering.{Ordering}
 use Rattle.std.specs.declared.cmp.Ordering.TheVariants.{Less, Equal, Greater}
-use Rattle.qos_handshakes.specs.Incoming.{Received, opened, opened_here, of_before, rise, of_identifiers, identifier_from}
+use Rattle.qos_handshakes.specs.Incoming.{Received, opened, opened_here, of_before, rise, of_identifiers}
 use Rattle.qos_handshakes.proofs.RiseLaws.{first_of, rise-first, rise-parts}
 
 pub before-is_map : (es : Received) → of_before es ≡ map (λ (e : ℕ × Bool). (e.0, false)) es
@@ -81,20 +78,3 @@ ids-fall left rest is all i so at past = elim (cases_Bool (rise all)) [
 pub kept-here : (is : List ℕ) → opened_here (of_identifiers is) ≡ 0
 kept-here [] = refl
 kept-here (i ∷ is) = omega (arith, kept-here is)
-
-in-range : (p k : ℕ) → range_contains nat_cmp (Included p) Unbounded k ≡ nat_le p k
-in-range p k = grind (arith, nat_tests)
-
-pub ids-head : (p : ℕ) (e : ℕ × Bool) (rest es : Received) → entries_between nat_cmp (Included p) Unbounded es ≡ e ∷ rest → identifier_from p es ≡ Some e.0
-ids-head p e rest [] h = (cc h)
-ids-head p e rest (x ∷ xs) h = elim (cases_Bool (nat_le p x.0)) [
-  | inl t ↦ let g : x ∷ entries_between nat_cmp (Included p) Unbounded xs ≡ e ∷ rest = rw (in-range p x.0 ∙ t) at h in let same : x ≡ e = cc in rw t (ap (λ (y : ℕ × Bool). Some y.0) same)
-  | inr f ↦ rw f (ids-head p e rest xs (rw (in-range p x.0 ∙ f) at h))
-]
-
-pub ids-past : (p : ℕ) (es : Received) → entries_between nat_cmp (Included p) Unbounded es ≡ [] → identifier_from p es ≡ None
-ids-past p [] h = refl
-ids-past p (x ∷ xs) h = elim (cases_Bool (nat_le p x.0)) [
-  | inl t ↦ (let bad : x ∷ entries_between nat_cmp (Included p) Unbounded xs ≡ [] = rw (in-range p x.0 ∙ t) at h in cc)
-  | inr f ↦ rw f (ids-past p xs (rw (in-range p x.0 ∙ f) at h))
-]

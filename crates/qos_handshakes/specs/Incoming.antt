@@ -1,5 +1,5 @@
 -- The QoS 2 exchanges that a client has opened (MQTT 5.0, 4.3.3), and what each call does to them.
-use Rattle.std.specs.Prelude.{◌≡◌, ℕ, ◌+◌, ◌<◌, ◌≤◌, ◌⊎◌, Bool, true, false, cond, List, [], ◌∷◌, Option, Some, None, is_some, nat_lt, nat_le, ◌&&◌}
+use Rattle.std.specs.Prelude.{◌≡◌, ℕ, ◌+◌, ◌<◌, ◌≤◌, ◌⊎◌, Bool, true, false, cond, List, [], ◌∷◌, Option, Some, None, is_some, nat_lt, ◌&&◌}
 use Rattle.std.specs.BTreeMap.{is_at, insert_entry}
 use Rattle.std.specs.List.{list_all}
 use Rattle.std.specs.Map.{lookup, remove_entry}
@@ -60,8 +60,3 @@ of_identifiers (i ∷ is) = (i, false) ∷ of_identifiers is
 abbrev pub identifiers_of : Received → List ℕ
 identifiers_of [] = []
 identifiers_of (e ∷ es) = e.0 ∷ identifiers_of es
-
--- the first identifier from one on
-abbrev pub identifier_from : ℕ → Received → Option ℕ
-identifier_from id [] = None
-identifier_from id (e ∷ es) = cond (nat_le id e.0) (Some e.0) (identifier_from id es)

@@ -1,6 +1,6 @@
 //! What came from one client at QoS 1 and QoS 2, over all connections of its session (MQTT 5.0, 4.3.2 and 4.3.3).
 ghost use Rattle.std.specs.Prelude.{◌≡◌, ◌≢◌, ◌<◌, [], true, false, IfOk, OnErr, MatchOption, is_some, None};
-ghost use Rattle.qos_handshakes.specs.Incoming.{Publish1Answer, Publish2Step, ReleaseStep, identifier_from, identifiers_of, of_before, of_identifiers, opened, opened_here, rise};
+ghost use Rattle.qos_handshakes.specs.Incoming.{Publish1Answer, Publish2Step, ReleaseStep, identifiers_of, of_before, of_identifiers, opened, opened_here, rise};
 
 use crate::answers::{Ack, In};
 use mqtt_fields::{MOST_EXCHANGES, NoMemory};
@@ -97,16 +97,6 @@ impl Incoming {
         ensures need { OnErr result (self.now ≢ []) }
     {
         identifiers_in(alloc, &self.exchanges)
-    }
-
-    /// The first identifier in use from one on. By rising identifiers these are all that are kept.
-    pub fn identifier_from(&self, id: u16) -> Option<u16>
-        ensures { result ≡ identifier_from id self.now }
-    {
-        match self.exchanges.range(id..).next() {
-            Some((found, _)) => Some(*found),
-            None => None,
-        }
     }
 
     fn opened(&self, id: u16) -> Option<bool>
