@@ -1,6 +1,7 @@
 -- How many exchanges were opened on a connection, call by call.
 use Rattle.std.proofs.Common.{◌≡◌, ◌⊎◌, ℕ, ◌+◌, true, false, cond, [], ◌∷◌, Option, Some, None, refl, sym, ◌∙◌, ap, arith, inl, inr, map}
 use Rattle.std.specs.Prelude.{Bool, is_some, ◌<◌, ◌≤◌, List, ◌++◌}
+use Rattle.std.proofs.lemmas.Bool.Decides.{nat_tests}
 use Rattle.std.proofs.lemmas.Bool.{cases_Bool, false≢true}
 use Rattle.std.specs.BTreeMap.{is_at, insert_entry}
 use Rattle.std.specs.Map.{remove_entry, keys_of}

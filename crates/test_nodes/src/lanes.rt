@@ -14,8 +14,8 @@ const FIRST: usize = 64;
 
 const LEFT: usize = 136;
 
-/// A payload, of which three are more than go before another message.
-const LONG: usize = 1_999_990;
+/// A payload, of which five are more than go before another message, and four are less.
+const LONG: usize = 1_048_500;
 
 /// `b` at node 0 subscribes to `t`, and node 1, whose client `a` is connected, knows so.
 fn pair(rt: &impl Abort, alloc: Global) -> (Node, Node) {
@@ -78,10 +78,10 @@ fn a_message_goes_behind_fewer_bytes_of_payload_than_may_go(rt: HostRuntime) {
     let payload = vec![in alloc; b'x'; LONG].expect(&rt, "memory");
     rest.extend_from_slice(&payload).expect(&rt, "memory");
     let long = packet(&rt, alloc, 0x32, &rest);
-    for _ in 0..5 {
+    for _ in 0..7 {
         answer(&rt, alloc, &mut node, 1, &long);
     }
-    for (after, count) in [(0, 4), (1, 4), (2, 4), (3, 3), (4, 2), (5, 1)] {
+    for (after, count) in [(0, 6), (1, 6), (2, 6), (3, 5), (6, 2), (7, 1)] {
         let more = frames(&rt, alloc, &mut node, EventKind::More { peer: 0, after });
         assert_eq!(rt; more.len(), count, "after {after}");
         drop(more);
