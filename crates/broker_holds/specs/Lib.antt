@@ -1,3 +1,4 @@
 pub mod Holding
 pub mod Lanes
+pub mod Links
 pub mod Patience

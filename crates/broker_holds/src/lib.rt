@@ -1,7 +1,9 @@
-//! Sockets on which clients that publish are held back while too much waits for other nodes.
+//! Sockets on which clients that publish are held back while too much waits for other nodes, and on which links of other nodes are taken from the addresses
+//! of the table alone.
 #![tactic(auto)]
 
 mod gauge;
+mod links;
 mod packets;
 mod patience;
 mod sockets;
@@ -9,6 +11,7 @@ mod strain;
 mod stream;
 
 pub use gauge::LaneGauge;
+pub use links::{GuardedLinks, Origins, number_of};
 pub use sockets::HoldingSockets;
 pub use strain::{Strain, Strained};
 pub use stream::HeldStream;

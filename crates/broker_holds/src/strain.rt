@@ -1,4 +1,4 @@
-//! Whether too much waits for other nodes, and which links to them stand.
+//! What a node and the sockets before it tell each other: whether too much waits for other nodes, which links to them stand, and from where links may come.
 
 use std::alloc::{AllocError, Global};
 use std::cell::Cell;
@@ -15,7 +15,8 @@ pub struct Strained {
     pub at: u64,
 }
 
-/// Whether too much waits for another node, as a node tells the sockets before it, and which links stand, as these tell the node.
+/// Whether too much waits for another node and where the bridges of the table are, as a node tells the sockets before it, and which links stand and how many were
+/// closed since they came from elsewhere, as these tell the node.
 #[derive(Drop)]
 pub struct Strain {
     told: Cell<Option<Strained>>,
@@ -25,6 +26,12 @@ pub struct Strain {
     calm: Cell<u64>,
     /// Whether the link to each other node stands, by its number.
     links: Vec<Cell<bool>>,
+    /// The addresses of the bridges, as numbers, where newer ones were told that weren't taken yet.
+    bridges: Cell<Option<Vec<u128>>>,
+    /// How many links were closed since they came from elsewhere.
+    refused: Cell<u64>,
+    /// From where the last of them came.
+    stranger: Cell<Option<u128>>,
 }
 
 impl Strain {
@@ -39,7 +46,36 @@ impl Strain {
             now: Cell::new(0),
             calm: Cell::new(0),
             links,
+            bridges: Cell::new(None),
+            refused: Cell::new(0),
+            stranger: Cell::new(None),
         })
+    }
+
+    /// Tells the addresses of the bridges in a newer table of homes.
+    pub fn tell_bridges(&self, bridges: Vec<u128>) {
+        self.bridges.set(Some(bridges));
+    }
+
+    /// Takes the addresses that were told last, where they weren't taken yet.
+    pub(crate) fn take_bridges(&self) -> Option<Vec<u128>> {
+        self.bridges.take()
+    }
+
+    /// A link from elsewhere was closed.
+    pub(crate) fn refuse(&self, origin: Option<u128>) {
+        self.refused.set(self.refused.get().saturating_add(1));
+        self.stranger.set(origin);
+    }
+
+    /// How many links were closed since they came from elsewhere.
+    pub fn refused(&self) -> u64 {
+        self.refused.get()
+    }
+
+    /// From where the last of them came, where the system told that.
+    pub fn stranger(&self) -> Option<u128> {
+        self.stranger.get()
     }
 
     /// What was told last.
