@@ -111,20 +111,20 @@ served_is : (rows : List Row) (o : Option Task) → IfSome o (IsServe rows) → 
 served_is rows None h = h
 served_is rows (Some (Play script)) h = absurd h.2
 served_is rows (Some (Loopback script)) h = absurd h.2
-served_is rows (Some (Serve configuration node database turns most_clients connect_within limits users mqtt3 log status status_hosts listen bridge_listen)) h = inl (refl, h)
+served_is rows (Some (Serve asked)) h = inl (refl, h)
 served_is rows (Some (Check configuration node database)) h = absurd h.2
 served_is rows (Some (Password name)) h = absurd h.2
-served_is rows (Some (DropRows configuration node database session queue lane)) h = absurd h.2
+served_is rows (Some (DropRows asked)) h = absurd h.2
 served_is rows (Some (Balancer configuration)) h = absurd h.2
 
 run_is : (rows : List Row) (o : Option Task) → IfSome o (IsRun rows) → IfSome o (IsOf (Some (codes "run", rows)))
 run_is rows None h = h
 run_is rows (Some (Play script)) h = absurd h
 run_is rows (Some (Loopback script)) h = absurd h
-run_is rows (Some (Serve configuration node database turns most_clients connect_within limits users mqtt3 log status status_hosts listen bridge_listen)) h = inr (refl, h)
+run_is rows (Some (Serve asked)) h = inr (refl, h)
 run_is rows (Some (Check configuration node database)) h = absurd h
 run_is rows (Some (Password name)) h = absurd h
-run_is rows (Some (DropRows configuration node database session queue lane)) h = absurd h
+run_is rows (Some (DropRows asked)) h = absurd h
 run_is rows (Some (Balancer configuration)) h = absurd h
 
 -- so a command's task is what the words ask for

@@ -170,20 +170,20 @@ IsScript rows script = first_of (codes "SCRIPT") rows ≡ Some script.bytes.item
 abbrev pub IsPlay : List Row → Task → Type 0
 IsPlay rows (Play script) = IsScript rows script
 IsPlay rows (Loopback script) = ⊥
-IsPlay rows (Serve configuration node database turns most_clients connect_within limits users mqtt3 log status status_hosts listen bridge_listen) = ⊥
+IsPlay rows (Serve asked) = ⊥
 IsPlay rows (Check configuration node database) = ⊥
 IsPlay rows (Password name) = ⊥
-IsPlay rows (DropRows configuration node database session queue lane) = ⊥
+IsPlay rows (DropRows asked) = ⊥
 IsPlay rows (Balancer configuration) = ⊥
 
 -- a script to play over sockets
 abbrev pub IsLoopback : List Row → Task → Type 0
 IsLoopback rows (Play script) = ⊥
 IsLoopback rows (Loopback script) = IsScript rows script
-IsLoopback rows (Serve configuration node database turns most_clients connect_within limits users mqtt3 log status status_hosts listen bridge_listen) = ⊥
+IsLoopback rows (Serve asked) = ⊥
 IsLoopback rows (Check configuration node database) = ⊥
 IsLoopback rows (Password name) = ⊥
-IsLoopback rows (DropRows configuration node database session queue lane) = ⊥
+IsLoopback rows (DropRows asked) = ⊥
 IsLoopback rows (Balancer configuration) = ⊥
 
 -- the number that an option is given, in range, as its text spells it
@@ -231,16 +231,18 @@ pub record AreUsers (rows : List Row) (users : AskedUsers) : Type 0 where
 abbrev pub IsNode : List Row → Option ℕ → Task → Type 0
 IsNode rows made (Play script) = ⊥
 IsNode rows made (Loopback script) = ⊥
-IsNode rows made (Serve configuration node database turns most_clients connect_within limits users mqtt3 log status status_hosts listen bridge_listen) =
-    (first_of (codes "CONFIG") rows ≡ Some configuration.bytes.items)
-    × (first_of (codes "NODE") rows ≡ Some node.bytes.items)
-    × (first_of (codes "DATABASE") rows ≡ Some database.bytes.items) × (turns ≡ made)
-    × IsNumberIf rows (codes "most-clients") most_clients × IsNumberIf rows (codes "connect-within") connect_within × IsFlag rows (codes "mqtt3") mqtt3 × IsFlag rows (codes "log") log × IsTextIf rows (codes "status") status × IsTextIf rows (codes "status-host") status_hosts
-    × IsTextIf rows (codes "listen") listen × IsTextIf rows (codes "bridge-listen") bridge_listen
-    × AreLimits rows limits × AreUsers rows users
+IsNode rows made (Serve asked) =
+    (first_of (codes "CONFIG") rows ≡ Some asked.configuration.bytes.items)
+    × (first_of (codes "NODE") rows ≡ Some asked.node.bytes.items)
+    × (first_of (codes "DATABASE") rows ≡ Some asked.database.bytes.items) × (asked.turns ≡ made)
+    × IsNumberIf rows (codes "most-clients") asked.most_clients × IsNumberIf rows (codes "connect-within") asked.connect_within
+    × IsFlag rows (codes "mqtt3") asked.mqtt3 × IsFlag rows (codes "log") asked.log
+    × IsTextIf rows (codes "status") asked.status × IsTextIf rows (codes "status-host") asked.status_hosts
+    × IsTextIf rows (codes "listen") asked.listen × IsTextIf rows (codes "bridge-listen") asked.bridge_listen
+    × AreLimits rows asked.limits × AreUsers rows asked.users
 IsNode rows made (Check configuration node database) = ⊥
 IsNode rows made (Password name) = ⊥
-IsNode rows made (DropRows configuration node database session queue lane) = ⊥
+IsNode rows made (DropRows asked) = ⊥
 IsNode rows made (Balancer configuration) = ⊥
 
 -- one for as many turns as are asked for
@@ -255,26 +257,26 @@ IsRun rows task = IsNode rows None task
 abbrev pub IsCheck : List Row → Task → Type 0
 IsCheck rows (Play script) = ⊥
 IsCheck rows (Loopback script) = ⊥
-IsCheck rows (Serve configuration node database turns most_clients connect_within limits users mqtt3 log status status_hosts listen bridge_listen) = ⊥
+IsCheck rows (Serve asked) = ⊥
 IsCheck rows (Password name) = ⊥
 IsCheck rows (Check configuration node database) =
     (first_of (codes "CONFIG") rows ≡ Some configuration.bytes.items)
     × (first_of (codes "NODE") rows ≡ Some node.bytes.items)
     × (first_of (codes "DATABASE") rows ≡ Some database.bytes.items)
-IsCheck rows (DropRows configuration node database session queue lane) = ⊥
+IsCheck rows (DropRows asked) = ⊥
 IsCheck rows (Balancer configuration) = ⊥
 
 -- a node that is down, and what is dropped of it
 abbrev pub IsDrop : List Row → Task → Type 0
 IsDrop rows (Play script) = ⊥
 IsDrop rows (Loopback script) = ⊥
-IsDrop rows (Serve configuration node database turns most_clients connect_within limits users mqtt3 log status status_hosts listen bridge_listen) = ⊥
+IsDrop rows (Serve asked) = ⊥
 IsDrop rows (Check configuration node database) = ⊥
-IsDrop rows (DropRows configuration node database session queue lane) =
-    (first_of (codes "CONFIG") rows ≡ Some configuration.bytes.items)
-    × (first_of (codes "NODE") rows ≡ Some node.bytes.items)
-    × (first_of (codes "DATABASE") rows ≡ Some database.bytes.items)
-    × IsTextIf rows (codes "session") session × IsTextIf rows (codes "queue") queue × IsTextIf rows (codes "lane") lane
+IsDrop rows (DropRows asked) =
+    (first_of (codes "CONFIG") rows ≡ Some asked.configuration.bytes.items)
+    × (first_of (codes "NODE") rows ≡ Some asked.node.bytes.items)
+    × (first_of (codes "DATABASE") rows ≡ Some asked.database.bytes.items)
+    × IsTextIf rows (codes "session") asked.session × IsTextIf rows (codes "queue") asked.queue × IsTextIf rows (codes "lane") asked.lane
 IsDrop rows (Password name) = ⊥
 IsDrop rows (Balancer configuration) = ⊥
 
@@ -282,20 +284,20 @@ IsDrop rows (Balancer configuration) = ⊥
 abbrev pub IsBalancer : List Row → Task → Type 0
 IsBalancer rows (Play script) = ⊥
 IsBalancer rows (Loopback script) = ⊥
-IsBalancer rows (Serve configuration node database turns most_clients connect_within limits users mqtt3 log status status_hosts listen bridge_listen) = ⊥
+IsBalancer rows (Serve asked) = ⊥
 IsBalancer rows (Check configuration node database) = ⊥
 IsBalancer rows (Password name) = ⊥
-IsBalancer rows (DropRows configuration node database session queue lane) = ⊥
+IsBalancer rows (DropRows asked) = ⊥
 IsBalancer rows (Balancer configuration) = first_of (codes "CONFIG") rows ≡ Some configuration.bytes.items
 
 -- a user whose line is wanted
 abbrev pub IsPassword : List Row → Task → Type 0
 IsPassword rows (Play script) = ⊥
 IsPassword rows (Loopback script) = ⊥
-IsPassword rows (Serve configuration node database turns most_clients connect_within limits users mqtt3 log status status_hosts listen bridge_listen) = ⊥
+IsPassword rows (Serve asked) = ⊥
 IsPassword rows (Check configuration node database) = ⊥
 IsPassword rows (Password name) = first_of (codes "NAME") rows ≡ Some name.bytes.items
-IsPassword rows (DropRows configuration node database session queue lane) = ⊥
+IsPassword rows (DropRows asked) = ⊥
 IsPassword rows (Balancer configuration) = ⊥
 
 -- the task of a command with what follows it
@@ -303,14 +305,11 @@ abbrev pub IsOf : Option (Text × List Row) → Task → Type 0
 IsOf None task = ⊥
 IsOf (Some (name, rows)) (Play script) = (name ≡ codes "play") × IsPlay rows (Play script)
 IsOf (Some (name, rows)) (Loopback script) = (name ≡ codes "loopback") × IsLoopback rows (Loopback script)
-IsOf (Some (name, rows)) (Serve configuration node database turns most_clients connect_within limits users mqtt3 log status status_hosts listen bridge_listen) =
-    ((name ≡ codes "serve") × IsServe rows (Serve configuration node database turns most_clients connect_within limits users mqtt3 log status status_hosts listen bridge_listen))
-    ⊎ ((name ≡ codes "run") × IsRun rows (Serve configuration node database turns most_clients connect_within limits users mqtt3 log status status_hosts listen bridge_listen))
+IsOf (Some (name, rows)) (Serve asked) = ((name ≡ codes "serve") × IsServe rows (Serve asked)) ⊎ ((name ≡ codes "run") × IsRun rows (Serve asked))
 IsOf (Some (name, rows)) (Check configuration node database) =
     (name ≡ codes "check") × IsCheck rows (Check configuration node database)
 IsOf (Some (name, rows)) (Password user) = (name ≡ codes "password") × IsPassword rows (Password user)
-IsOf (Some (name, rows)) (DropRows configuration node database session queue lane) =
-    (name ≡ codes "drop") × IsDrop rows (DropRows configuration node database session queue lane)
+IsOf (Some (name, rows)) (DropRows asked) = (name ≡ codes "drop") × IsDrop rows (DropRows asked)
 IsOf (Some (name, rows)) (Balancer configuration) = (name ≡ codes "balancer") × IsBalancer rows (Balancer configuration)
 
 -- the words are a command line without a fault, and ask for the task

@@ -7,7 +7,7 @@ ghost use Rattle.broker_command.specs.Line.{dropping, IsDrop};
 
 use crate::addresses::address_option;
 use crate::line::{node_words, text_of};
-use crate::task::Task;
+use crate::task::{AskedDrop, Task};
 use clap::{ArgMatches, Command};
 use std::alloc::{AllocError, Global};
 
@@ -42,12 +42,12 @@ pub(crate) fn drop_task(alloc: Global, found: &ArgMatches<'_>) -> Result<Option<
     let session = text_of(alloc, found, "session")?;
     let queue = text_of(alloc, found, "queue")?;
     let lane = text_of(alloc, found, "lane")?;
-    Ok(Some(Task::DropRows {
+    Ok(Some(Task::DropRows(AskedDrop {
         configuration,
         node,
         database,
         session,
         queue,
         lane,
-    }))
+    })))
 }

@@ -9,4 +9,4 @@ mod task;
 mod users;
 
 pub use line::task_of;
-pub use task::{AskedLimits, AskedUsers, Task};
+pub use task::{AskedDrop, AskedLimits, AskedService, AskedUsers, Task};

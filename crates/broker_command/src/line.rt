@@ -9,7 +9,7 @@ ghost use Rattle.broker_command.specs.Line.{broker, play, loopback, node_words, 
 use crate::addresses::with_addresses;
 use crate::dropping::{drop_command, drop_task};
 use crate::limits::{limits_of, with_limits};
-use crate::task::Task;
+use crate::task::{AskedService, Task};
 use crate::users::{users_of, with_users};
 use clap::error::ErrorKind;
 use clap::{Arg, ArgAction, ArgMatches, Command, Error, value_parser};
@@ -348,7 +348,7 @@ fn node_task(
     let Some(limits) = limits_of(found) else {
         return Ok(None);
     };
-    Ok(Some(Task::Serve {
+    Ok(Some(Task::Serve(AskedService {
         configuration: String::from_str(alloc, configuration)?,
         node: String::from_str(alloc, node)?,
         database: String::from_str(alloc, database)?,
@@ -363,7 +363,7 @@ fn node_task(
         status_hosts: text_of(alloc, found, "status-host")?,
         listen: text_of(alloc, found, "listen")?,
         bridge_listen: text_of(alloc, found, "bridge-listen")?,
-    }))
+    })))
 }
 
 fn serve_task(alloc: Global, found: &ArgMatches<'_>) -> Result<Option<Task>, AllocError>

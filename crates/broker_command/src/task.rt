@@ -30,6 +30,56 @@ pub struct AskedUsers {
     pub anonymous: bool,
 }
 
+/// The node that a command line asks for, and how it is to be served.
+#[derive(Debug, PartialEq, Eq, Drop)]
+pub struct AskedService {
+    /// The path of the configuration.
+    pub configuration: String,
+    /// The node's name in it.
+    pub node: String,
+    /// The path of the node's database.
+    pub database: String,
+    /// How many turns to make, from 1 to 1,000,000,000. None: until the program is stopped.
+    pub turns: Option<u32>,
+    /// How many clients may be connected at a time, from 1 to 1,000,000,000, or any number.
+    pub most_clients: Option<u32>,
+    /// Within how many seconds a client has to be accepted, from 1 to 1,000,000,000, or any number.
+    pub connect_within: Option<u32>,
+    /// Limits on what clients send.
+    pub limits: AskedLimits,
+    /// Who may come.
+    pub users: AskedUsers,
+    /// Whether clients of MQTT 3.1.1 and 3.1 are served too.
+    pub mqtt3: bool,
+    /// Whether a log is written to standard error.
+    pub log: bool,
+    /// Where its status is told, if anywhere.
+    pub status: Option<String>,
+    /// By which hosts its status may be asked for beside an IP address, `localhost` and its name, with commas between them, if by any.
+    pub status_hosts: Option<String>,
+    /// Where it waits for clients, if not at the address that the configuration tells.
+    pub listen: Option<String>,
+    /// Where it waits for other nodes, if not at the address of its bridge.
+    pub bridge_listen: Option<String>,
+}
+
+/// What a command line asks to drop from the rows of a node that is down.
+#[derive(Debug, PartialEq, Eq, Drop)]
+pub struct AskedDrop {
+    /// The path of the configuration.
+    pub configuration: String,
+    /// The node's name in it.
+    pub node: String,
+    /// The path of the node's database.
+    pub database: String,
+    /// The client whose session is dropped, if one is.
+    pub session: Option<String>,
+    /// The client whose queue is dropped, if one is.
+    pub queue: Option<String>,
+    /// The node for which nothing is to wait, if there is one.
+    pub lane: Option<String>,
+}
+
 /// What a command line asks for.
 #[derive(Debug, PartialEq, Eq, Drop)]
 pub enum Task {
@@ -44,36 +94,7 @@ pub enum Task {
         script: String,
     },
     /// Serve clients as a node.
-    Serve {
-        /// The path of the configuration.
-        configuration: String,
-        /// The node's name in it.
-        node: String,
-        /// The path of the node's database.
-        database: String,
-        /// How many turns to make, from 1 to 1,000,000,000. None: until the program is stopped.
-        turns: Option<u32>,
-        /// How many clients may be connected at a time, from 1 to 1,000,000,000, or any number.
-        most_clients: Option<u32>,
-        /// Within how many seconds a client has to be accepted, from 1 to 1,000,000,000, or any number.
-        connect_within: Option<u32>,
-        /// Limits on what clients send.
-        limits: AskedLimits,
-        /// Who may come.
-        users: AskedUsers,
-        /// Whether clients of MQTT 3.1.1 and 3.1 are served too.
-        mqtt3: bool,
-        /// Whether a log is written to standard error.
-        log: bool,
-        /// Where its status is told, if anywhere.
-        status: Option<String>,
-        /// By which hosts its status may be asked for beside an IP address, `localhost` and its name, with commas between them, if by any.
-        status_hosts: Option<String>,
-        /// Where it waits for clients, if not at the address that the configuration tells.
-        listen: Option<String>,
-        /// Where it waits for other nodes, if not at the address of its bridge.
-        bridge_listen: Option<String>,
-    },
+    Serve(AskedService),
     /// Print the line of a user in a file of users, for the password on standard input.
     Password {
         /// The user name.
@@ -89,20 +110,7 @@ pub enum Task {
         database: String,
     },
     /// Drop something from the rows of a node that is down.
-    DropRows {
-        /// The path of the configuration.
-        configuration: String,
-        /// The node's name in it.
-        node: String,
-        /// The path of the node's database.
-        database: String,
-        /// The client whose session is dropped, if one is.
-        session: Option<String>,
-        /// The client whose queue is dropped, if one is.
-        queue: Option<String>,
-        /// The node for which nothing is to wait, if there is one.
-        lane: Option<String>,
-    },
+    DropRows(AskedDrop),
     /// Print what HAProxy needs to send each client to its home.
     Balancer {
         /// The path of the configuration.

@@ -1,7 +1,13 @@
 //! What each command runs.
 
+ghost use Rattle.std.specs.Prelude.{◌≡◌, is_some, IfOk, IfSome};
+ghost use Rattle.std.specs.Option.{option_copied};
+ghost use Rattle.cli_files.specs.Users.{AreAsked, AreRead};
+ghost use Rattle.door_users.specs.Files.{rights_of};
+ghost use Rattle.broker_program.specs.Given.{given_text};
+
 use crate::limits::bounds_of;
-use broker_command::{AskedUsers, Task};
+use broker_command::{AskedDrop, AskedService, AskedUsers, Task};
 use broker_sockets::RealSockets;
 use cli_files::{print_user_line, random_salt, read_access, read_password, read_script};
 use cli_reports::{Asked, balance, check, drop_rows};
@@ -18,42 +24,7 @@ pub fn run_task(rt: &HostRuntime, task: Task) -> Result<(), Ending> {
     match task {
         Task::Play { script } => play(rt, script.as_str()),
         Task::Loopback { script } => loopback(rt, script.as_str()),
-        Task::Serve {
-            configuration,
-            node,
-            database,
-            turns,
-            most_clients,
-            connect_within,
-            limits,
-            users,
-            mqtt3,
-            log,
-            status,
-            status_hosts,
-            listen,
-            bridge_listen,
-        } => serve(
-            rt,
-            Named {
-                configuration: configuration.as_str(),
-                node: node.as_str(),
-                database: database.as_str(),
-            },
-            access_of(rt, &users)?,
-            Service {
-                at: ListenAt {
-                    clients: listen.as_ref().map(|address| address.as_str()),
-                    nodes: bridge_listen.as_ref().map(|address| address.as_str()),
-                },
-                bounds: bounds_of(&limits),
-                limits: Limits::new(most_clients, connect_within),
-                mqtt3,
-                log,
-                status: status_at(&status, &status_hosts),
-                turns,
-            },
-        ),
+        Task::Serve(asked) => serve_asked(rt, &asked),
         Task::Password { name } => password(rt, name.as_str()),
         Task::Check {
             configuration,
@@ -66,46 +37,78 @@ pub fn run_task(rt: &HostRuntime, task: Task) -> Result<(), Ending> {
             database.as_str(),
             &mut rt.stdout(),
         ),
-        Task::DropRows {
-            configuration,
-            node,
-            database,
-            session,
-            queue,
-            lane,
-        } => {
-            let asked = Asked {
-                configuration: configuration.as_str(),
-                node: node.as_str(),
-                database: database.as_str(),
-                session: session.as_ref().map(|client| client.as_str()),
-                queue: queue.as_ref().map(|client| client.as_str()),
-                lane: lane.as_ref().map(|name| name.as_str()),
-            };
-            drop_rows(rt, asked, &mut rt.stdout())
-        }
+        Task::DropRows(asked) => drop_asked(rt, &asked),
         Task::Balancer { configuration } => {
             balance(rt, configuration.as_str(), &mut rt.stdout())
         }
     }
 }
 
-/// Where the status is told, and by which hosts beside the usual ones, if it is told.
-fn status_at<'a>(address: &'a Option<String>, hosts: &'a Option<String>) -> Option<StatusAt<'a>> {
-    let address = address.as_ref()?.as_str();
-    let hosts = match hosts {
-        Some(hosts) => hosts.as_str(),
-        None => "",
+/// Serves clients as the node that a command line asks for.
+fn serve_asked(rt: &HostRuntime, asked: &AskedService) -> Result<(), Ending> {
+    let names = Named {
+        configuration: asked.configuration.as_str(),
+        node: asked.node.as_str(),
+        database: asked.database.as_str(),
     };
+    serve(rt, names, access_of(rt, &asked.users)?, service_of(asked))
+}
+
+/// How the node is served that a command line asks for.
+fn service_of(asked: &AskedService) -> Service<'_> {
+    Service {
+        at: ListenAt {
+            clients: text_in(&asked.listen),
+            nodes: text_in(&asked.bridge_listen),
+        },
+        bounds: bounds_of(&asked.limits),
+        limits: Limits::new(asked.most_clients, asked.connect_within),
+        mqtt3: asked.mqtt3,
+        log: asked.log,
+        status: status_at(asked),
+        turns: asked.turns,
+    }
+}
+
+/// Drops of the rows of a node what a command line asks for.
+fn drop_asked(rt: &HostRuntime, asked: &AskedDrop) -> Result<(), Ending> {
+    let asked = Asked {
+        configuration: asked.configuration.as_str(),
+        node: asked.node.as_str(),
+        database: asked.database.as_str(),
+        session: text_in(&asked.session),
+        queue: text_in(&asked.queue),
+        lane: text_in(&asked.lane),
+    };
+    drop_rows(rt, asked, &mut rt.stdout())
+}
+
+/// The text that an option was given, if it was given.
+fn text_in(option: &Option<String>) -> Option<&str>
+    ensures { option_copied result ≡ given_text option.now }
+{
+    match option {
+        Some(text) => Some(text.as_str()),
+        None => None,
+    }
+}
+
+/// Where the status is told, and by which hosts beside the usual ones, if it is told.
+fn status_at(asked: &AskedService) -> Option<StatusAt<'_>> {
+    let address = text_in(&asked.status)?;
+    let hosts = text_in(&asked.status_hosts).unwrap_or("");
     Some(StatusAt { address, hosts })
 }
 
-/// Who may come, by the files that a command line names.
-fn access_of(rt: &HostRuntime, users: &AskedUsers) -> Result<Option<FileAccess>, Ending> {
+/// Who may come and what each may do, as the files say that a command line names; none where it names no file of users.
+fn access_of(rt: &HostRuntime, users: &AskedUsers) -> Result<Option<FileAccess>, Ending>
+    ensures asked { IfOk result (λ access. AreAsked (given_text users.now.users) (given_text users.now.permissions) users.now.anonymous (is_some access)) }
+    ensures rights { IfOk result (λ access. IfSome access (λ a. AreRead (given_text users.now.permissions) users.now.anonymous (rights_of a))) }
+{
     let access = read_access(
         rt,
-        users.users.as_ref().map(|path| path.as_str()),
-        users.permissions.as_ref().map(|path| path.as_str()),
+        text_in(&users.users),
+        text_in(&users.permissions),
         users.anonymous,
     )?;
     Ok(access)

@@ -126,7 +126,7 @@ fn decide<S: Readiness, H: BridgeHandler>(
     handle_event(clients, handler, Event { at, kind })?;
     ship_all(clients, dialled, handler, at)?;
     make_rooms(alloc, clients, handler, at)?;
-    settle(handler, at)
+    settle(handler)
 }
 
 /// Writes to each client for which something is due, and to each link that was dialled.

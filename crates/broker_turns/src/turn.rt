@@ -249,8 +249,8 @@ fn write_client<S: Sockets>(client: &mut Client<S::Stream>, sockets: &mut S) -> 
     }
 }
 
-/// The handler makes what it has decided last, in a turn at this moment.
-pub fn settle<H: BridgeHandler>(handler: &mut H, _at: u64) -> Result<(), TurnFault<H::Fault>>
+/// The handler makes all that it has decided since it last settled lasting.
+pub fn settle<H: BridgeHandler>(handler: &mut H) -> Result<(), TurnFault<H::Fault>>
     ensures ok { OnOk result (H.settles handler.old handler.new) }
     ensures fault { IfErr result (IsUnsettled H.stops handler.old handler.new) }
 {
@@ -288,7 +288,7 @@ fn write_one<S: Sockets, H: BridgeHandler>(
                 return Ok(());
             }
             let_go(clients, handler, at, key)?;
-            settle(handler, at)
+            settle(handler)
         }
     }
 }

@@ -1,6 +1,6 @@
 //! Worked examples: command lines, and the tasks that they ask for or the statuses that they end with.
 
-use broker_command::{AskedLimits, AskedUsers, Task, task_of};
+use broker_command::{AskedDrop, AskedLimits, AskedService, AskedUsers, Task, task_of};
 use std::alloc::Global;
 use std::process::Abort;
 
@@ -21,22 +21,24 @@ fn told(rt: &impl Abort, alloc: Global, line: &str) -> String {
         Ok(Task::Play { script }) => format!(in alloc; "play {script}"),
         Ok(Task::Loopback { script }) => format!(in alloc; "loopback {script}"),
         Ok(
-            Task::Serve {
-                configuration,
-                node,
-                database,
-                turns,
-                most_clients,
-                connect_within,
-                limits,
-                users,
-                mqtt3,
-                log,
-                status,
-                status_hosts,
-                listen,
-                bridge_listen,
-            },
+            Task::Serve(
+                AskedService {
+                    configuration,
+                    node,
+                    database,
+                    turns,
+                    most_clients,
+                    connect_within,
+                    limits,
+                    users,
+                    mqtt3,
+                    log,
+                    status,
+                    status_hosts,
+                    listen,
+                    bridge_listen,
+                },
+            ),
         ) => {
             let waits = (status_hosts, listen, bridge_listen);
             let options = (turns, most_clients, connect_within, mqtt3, log, status);
@@ -76,14 +78,16 @@ fn told(rt: &impl Abort, alloc: Global, line: &str) -> String {
             },
         ) => { format!(in alloc; "check {configuration} {node} {database}") }
         Ok(
-            Task::DropRows {
-                configuration,
-                node,
-                database,
-                session,
-                queue,
-                lane,
-            },
+            Task::DropRows(
+                AskedDrop {
+                    configuration,
+                    node,
+                    database,
+                    session,
+                    queue,
+                    lane,
+                },
+            ),
         ) => {
             format!(in alloc;
                 "drop {configuration} {node} {database} ({session:?}, {queue:?}, {lane:?})"

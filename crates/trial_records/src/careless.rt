@@ -2,9 +2,9 @@
 
 ghost use Rattle.std.specs.Prelude.{◌≡◌, ⊤};
 
+use crate::nodes::Rows;
 use row_store::{Change, MemoryRows, Row, RowFault, RowStore};
 use std::alloc::Global;
-use trial_runs::Rows;
 
 /// Rows of which nothing is promised.
 #[derive(Drop)]

@@ -1,11 +1,14 @@
 //! A cluster, as runs play it of which an allocation is refused.
 
+use crate::failure::Failure;
+use crate::notes::Notes;
+use crate::run::Run;
+use crate::trial::{Came, Played, came_of};
 use broker_node::{Event, EventKind};
 use cluster_play::{Cluster, Line, PlayFault, Step, Trace};
 use home_table::HomeTable;
 use std::alloc::Global;
 use std::{mem, slice};
-use trial_runs::{Came, Failure, Notes, Played, Run, came_of};
 
 /// A cluster, or the tables of the one that isn't there yet.
 #[derive(Drop)]

@@ -12,20 +12,28 @@
 mod careless;
 mod clusters;
 mod database;
+mod failure;
+mod nodes;
+mod notes;
 mod openings;
 mod recorded;
+mod recovery;
+mod run;
+mod telling;
+mod trial;
 mod waking;
 
 use crate::careless::CarelessRows;
 use crate::clusters::Together;
+use crate::nodes::Nodes;
 use crate::openings::DATABASES;
 use crate::recorded::RecordedRows;
+use crate::telling::tell;
 use crate::waking::NODES_LEFT;
 use row_store::MemoryRows;
 use std::io;
 use std::process::ExitCode;
 use trial_refusals::{Call, sweep};
-use trial_runs::{Nodes, tell};
 
 /// What plays the runs.
 #[derive(Clone, Copy, PartialEq, Eq)]

@@ -4,11 +4,11 @@ ghost use Rattle.std.specs.Prelude.{◌≡◌, ◌-◌, ◌^◌};
 ghost use Rattle.std.specs.FinMap.{empty};
 
 use crate::database::{Database, change, reopen, rows_in};
+use crate::nodes::Rows;
 use row_store::{Change, Row, RowFault, RowStore};
 use sqlite::Files;
 use std::alloc::Global;
 use trial_files::RoomyFile;
-use trial_runs::Rows;
 
 /// Rows in a database over two files in memory, each with room from the start, so that no write to them asks for memory. Nothing is
 /// promised of them.

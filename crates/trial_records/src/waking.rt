@@ -1,6 +1,8 @@
 //! A node that is opened from rows which no script leaves, and what it comes to then.
 
+use crate::nodes::Rows;
 use crate::recorded::RecordedRows;
+use crate::trial::wants_memory;
 use broker_node::{Event, EventKind};
 use home_table::{HomeTable, homes_of};
 use mqtt_packets::Bytes;
@@ -8,7 +10,6 @@ use node_keeper::{Keeper, KeeperFault};
 use row_store::{Change, MemoryRows, Row, RowStore};
 use std::alloc::Global;
 use trial_refusals::{Call, Changing, Fault, Trial, ensure, try_changing};
-use trial_runs::{Rows, wants_memory};
 
 /// From which rows node 1 is opened.
 #[derive(Clone, Copy, PartialEq, Eq)]

@@ -1,6 +1,9 @@
 //! Nodes with their rows, and the frames that they have given out.
 
-use crate::{Came, Failure, Notes, Played, Run, came_of, wants_memory};
+use crate::failure::Failure;
+use crate::notes::Notes;
+use crate::run::Run;
+use crate::trial::{Came, Played, came_of, wants_memory};
 use broker_node::{Event, EventKind, Frame, Output};
 use cluster_play::Step;
 use home_table::HomeTable;
