@@ -15,7 +15,7 @@ use Rattle.broker_sockets.specs.declared.ready.Watched.{Watched}
 use Rattle.broker_sockets.specs.declared.network.Answer.{Answer}
 use Rattle.broker_sockets.specs.Answers.{Offers, carried}
 use Rattle.broker_turns.specs.Bridging.{HearsAll, IsFrameHeard, IsBegun, IsBegunBy, IsDialledAt, IsDialledIf, IsDialledOnce, IsWatchedIf, IsHeardFrom, IsHearing, IsLineRead, IsLinkReadIn, IsLinkWrittenIn, IsOffered, IsPeerRead, IsPeerReadIn, IsShipped, IsShippedIf, IsSought, IsSupplied, LineTried, Near, Place, Reach, Relinks, Search, left_if, search}
-use Rattle.broker_turns.specs.Lines.{Framed, Noted, answered, asks_for, framed, framed_all, framed_at, fresh_line, is_answer, is_from, is_of, is_rested, link_of, marked, noted, number_in, pushed}
+use Rattle.broker_turns.specs.Lines.{Framed, Noted, again, asks_for, framed, framed_all, framed_at, fresh_line, heard_from, is_from, is_of, is_rested, link_of, marked, noted, number_in, pushed}
 use Rattle.broker_turns.specs.Order.{Extends, IsNew, IsOf, NoFrameIsLost, TakesNothing, TakesWhatItAnswers, link_flow}
 use Rattle.broker_turns.specs.Steps.{Each, EachBelow, EachTells}
 use Rattle.broker_turns.specs.Turns.{IsDecided, IsGivenOut, IsTakenIn}
@@ -95,20 +95,22 @@ module _ {T : Type 0} (taken : T → List ℕ) (New : ℕ → Line T → Type 0)
   Carries-marked : (at : ℕ) (d d' : List (Option (Line T))) (peer : ℕ) → Relinks d d' peer (option_map (marked at) (link_of d peer)) → Carries d d'
   Carries-marked at d d' peer is = Carries-relinked d d' peer _ (λ line' e. marked-from peer at (link_of d peer) line' e) is
 
-  answered-same : (got : Bool) (at : ℕ) (frame : List ℕ) (line : Line T)
-      → link_flow taken (if got then record line { asked = Some at; got = number_in frame } else record line { asked = Some at; awaited = false }) ≡ link_flow taken line
-  answered-same true at frame line = refl
-  answered-same false at frame line = refl
+  heard-same : (got know : Bool) (at : ℕ) (frame : List ℕ) (line : Line T)
+      → link_flow taken (if got then record line { heard = true; asked = again at line.asked; got = number_in frame }
+      else if know then record line { heard = true; asked = again at line.asked; awaited = false } else record line { heard = true }) ≡ link_flow taken line
+  heard-same true know at frame line = refl
+  heard-same false true at frame line = refl
+  heard-same false false at frame line = refl
 
-  noted-if : (sent : Bool) (at : ℕ) (frame : List ℕ) (line : Line T) → Extends (link_flow taken (if sent then answered at frame line else line)) (link_flow taken line)
-  noted-if true at frame line = Extends-same _ _ (answered-same (is_of 5 frame) at frame line)
+  noted-if : (sent : Bool) (at : ℕ) (frame : List ℕ) (line : Line T) → Extends (link_flow taken (if sent then heard_from at frame line else line)) (link_flow taken line)
+  noted-if true at frame line = Extends-same _ _ (heard-same (is_of 5 frame) (is_of 3 frame) at frame line)
   noted-if false at frame line = Extends-same _ _ refl
 
   noted-from : (peer at : ℕ) (frame : List ℕ) (before : Option (Line T)) (line' : Line T) → Some line' ≡ noted peer at frame before → IsOf taken before (New peer line') line'
   noted-from peer at frame None line' e = absurd (cc)
   noted-from peer at frame (Some line) line' e =
-      let is : line' ≡ (if is_from peer frame && is_answer frame then answered at frame line else line) = cc in
-      inl (line, refl, rw is (noted-if (is_from peer frame && is_answer frame) at frame line))
+      let is : line' ≡ (if is_from peer frame then heard_from at frame line else line) = cc in
+      inl (line, refl, rw is (noted-if (is_from peer frame) at frame line))
 
   Carries-noted : (at : ℕ) (frame : List ℕ) (d d' : List (Option (Line T))) → Noted at frame d d' → Carries d d'
   Carries-noted at frame d d' is peer line' there = noted-from peer at frame (link_of d peer) line' (sym there ∙ is peer)

@@ -12,7 +12,7 @@ use Rattle.broker_sockets.specs.declared.bridge.PeerFrame.{PeerFrame}
 use Rattle.broker_turns.specs.declared.lines.Line.{Line}
 use Rattle.broker_turns.specs.Bridging.{HearsAll, IsFrameHeard, IsHearing, IsKept, IsLineWritten, IsLinkRead, IsHeardFrom, IsLinkReadIn, IsLinkWrittenIn, IsMarked, IsOffered, IsPeerKept, IsPeerLinkRead, IsPeerRead, IsPeerReadIn, IsShipped, IsShippedIf, IsSupplied, Near, Place, Reach, Relinks, left_if, peer_event}
 use Rattle.broker_sockets.specs.declared.network.Answer.{Answer}
-use Rattle.broker_turns.specs.Lines.{Framed, framed, framed_all, framed_at, Noted, answered, asks_for, is_answer, is_from, link_of, noted, pushed}
+use Rattle.broker_turns.specs.Lines.{Framed, framed, framed_all, framed_at, Noted, asks_for, heard_from, is_from, link_of, noted, pushed}
 
 module _ {T : Type 0} where
   pub framed_all-more : (peer : ℕ) (frames : List PeerFrame) (frame : PeerFrame) (line : Line T) → framed_all peer (frames ++ frame ∷ []) line ≡ framed peer frame (framed_all peer frames line)
@@ -85,7 +85,7 @@ module _ {H T : Type 0} (hears : H → PeerEvent → Given → H → Type 0) (at
       let Q : Option PeerEventKind → Type 0 = λ o. IsShippedIf hears at o peer n n in
       record { by_link = subst P (sym found) (subst Q (sym asks) refl) }
 
--- an answer that is noted on the link of the peer that sends it
+-- a frame that is noted on the link of the peer that sends it
 long_is : (n : ℕ) → 6 < n → ltb 6 n ≡ true
 long_is n long = grind (arith, long, nat_tests)
 
@@ -93,21 +93,21 @@ was_from : (peer p : ℕ) (frame : List ℕ) (b : Bool) → p ≡ slice_index_or
 was_from peer p frame b is long same = (λ i. long_is (length frame) long i && eqb (sym is i) peer) ∙ same
 
 module _ {T : Type 0} where
-  noted_mine : (peer at : ℕ) (frame : List ℕ) (o : Option (Line T)) → is_from peer frame ≡ true → is_answer frame ≡ true → option_map (answered at frame) o ≡ noted peer at frame o
-  noted_mine peer at frame None mine answers = refl
-  noted_mine peer at frame (Some line) mine answers = sym (λ i. Some (if mine i && answers i then answered at frame line else line))
+  noted_mine : (peer at : ℕ) (frame : List ℕ) (o : Option (Line T)) → is_from peer frame ≡ true → option_map (heard_from at frame) o ≡ noted peer at frame o
+  noted_mine peer at frame None mine = refl
+  noted_mine peer at frame (Some line) mine = sym (λ i. Some (if mine i then heard_from at frame line else line))
 
   noted_other : (peer at : ℕ) (frame : List ℕ) (o : Option (Line T)) → is_from peer frame ≡ false → o ≡ noted peer at frame o
   noted_other peer at frame None other = refl
-  noted_other peer at frame (Some line) other = sym (λ i. Some (if other i && is_answer frame then answered at frame line else line))
+  noted_other peer at frame (Some line) other = sym (λ i. Some (if other i then heard_from at frame line else line))
 
-  pub noted-by : (old new : List (Option (Line T))) (p at : ℕ) (frame : List ℕ) → p ≡ slice_index_or frame 5 0 * 256 + slice_index_or frame 6 0 → 6 < length frame → is_answer frame ≡ true
-      → Relinks old new p (option_map (answered at frame) (link_of old p)) → Noted at frame old new
-  noted-by old new p at frame is long answers links peer = elim (eqb_tells p peer) [
+  pub noted-by : (old new : List (Option (Line T))) (p at : ℕ) (frame : List ℕ) → p ≡ slice_index_or frame 5 0 * 256 + slice_index_or frame 6 0 → 6 < length frame
+      → Relinks old new p (option_map (heard_from at frame) (link_of old p)) → Noted at frame old new
+  noted-by old new p at frame is long links peer = elim (eqb_tells p peer) [
     | inl same ↦
         let P : ℕ → Type 0 = λ k. link_of new k ≡ noted k at frame (link_of old k) in
         let mine : is_from p frame ≡ true = was_from p p frame true is long (ap (λ k. eqb p k) same.1 ∙ same.0) in
-        subst P same.1 (links.changed ∙ noted_mine p at frame (link_of old p) mine answers)
+        subst P same.1 (links.changed ∙ noted_mine p at frame (link_of old p) mine)
     | inr apart ↦ links.others peer (λ e. apart.1 (sym e)) ∙ noted_other peer at frame (link_of old peer) (was_from peer p frame false is long apart.0)
   ]
 

@@ -62,7 +62,7 @@ module _ {H T : Type 0} (hears : H → PeerEvent → Given → H → Type 0) whe
     pub released : Released given.outputs.items n.clients n'.clients
     pub framed : Framed given.frames.items n.dialled n'.dialled
 
-  -- an answer is noted on the link of the node that sends it, and the frame is handed over
+  -- a frame is noted on the link of the node that sends it, and handed over
   pub record IsFrameHeard (at : ℕ) (frame : Vec ℕ Global) (n n' : Near H T) : Type 0 where
     pub links : List (Option (Line T))
     pub noted : Noted at frame.items n.dialled links
@@ -91,6 +91,7 @@ pub record IsLineRead {S T : Type 0} (reads : S → T → Answer → List ℕ �
   pub most : length bytes ≤ 65536
   pub taken : IsTaken answer bytes line.held frames line'.held goes_on more
   pub unsent : line'.unsent ≡ line.unsent
+  pub known : line'.heard ≡ line.heard
   pub still : line'.asked ≡ line.asked
   pub as_ever : line'.awaited ≡ line.awaited
   pub sent : line'.sent ≡ line.sent
@@ -101,7 +102,7 @@ module _ {S T : Type 0} (writes : S → T → List ℕ → Answer → S → T �
   abbrev pub LineTried : S → Line T → Option Answer → S → Line T → Type 0
   LineTried s line None s' left = (line.unsent ≡ []) × (s' ≡ s) × (left ≡ line)
   LineTried s line (Some answer) s' left =
-      Offers writes line.unsent s line.stream answer left.unsent s' left.stream × (left.held ≡ line.held) × (left.asked ≡ line.asked) × (left.awaited ≡ line.awaited)
+      Offers writes line.unsent s line.stream answer left.unsent s' left.stream × (left.held ≡ line.held) × (left.heard ≡ line.heard) × (left.asked ≡ line.asked) × (left.awaited ≡ line.awaited)
       × (left.sent ≡ line.sent) × (left.got ≡ line.got)
 
 -- a link goes on unless it failed or more than 536,870,912 bytes wait

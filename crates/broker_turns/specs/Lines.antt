@@ -18,9 +18,6 @@ is_from peer frame = ltb 6 (length frame) && eqb (slice_index_or frame 5 0 * 256
 abbrev pub is_of : ℕ → List ℕ → Bool
 is_of kind frame = ltb 4 (length frame) && eqb (slice_index_or frame 4 0) kind
 
-abbrev pub is_answer : List ℕ → Bool
-is_answer frame = is_of 5 frame || is_of 3 frame
-
 -- a Forward and a Got have a number in the eight bytes from the tenth on, the highest first; what a frame lacks of them is 0
 abbrev pub byte_at : ℕ → List ℕ → ℕ
 byte_at place frame = slice_index_or frame place 0
@@ -31,18 +28,23 @@ four_at place frame = (byte_at place frame * 256 + byte_at (place + 1) frame) * 
 abbrev pub number_in : List ℕ → ℕ
 number_in frame = four_at 9 frame * 4294967296 + four_at 13 frame
 
+-- a moment in place of another one, where there was one
+abbrev pub again : ℕ → Option ℕ → Option ℕ
+again at None = None
+again at (Some last) = Some at
+
 module _ {T : Type 0} where
   -- nothing has come, and nothing waits
   abbrev pub fresh_line : T → Line T
-  fresh_line stream = record { stream = stream; held = []; unsent = []; asked = None; awaited = false; sent = 0; got = 0 }
+  fresh_line stream = record { stream = stream; held = []; unsent = []; heard = false; asked = None; awaited = false; sent = 0; got = 0 }
 
   -- the peer owes a Know, or a Got for the last Forward
   abbrev pub is_unanswered : Line T → Bool
   is_unanswered line = line.awaited || ltb line.got line.sent
 
-  -- all is asked for that the peer may lack where nothing waits: at first, and once the peer owes an answer and has given none for a second
+  -- all is asked for that the peer may lack where the peer was heard and nothing waits: at first, and once the peer owes an answer and has given none for a second
   abbrev pub is_due : ℕ → Line T → Bool
-  is_due at line = eqb (length line.unsent) 0 && (is_none line.asked || (is_unanswered line && is_rested 1000 at line.asked))
+  is_due at line = line.heard && (eqb (length line.unsent) 0 && (is_none line.asked || (is_unanswered line && is_rested 1000 at line.asked)))
 
   -- and then what wasn't given yet, while fewer than 65,536 bytes wait, no Know is owed, and fewer than 16,384 messages are unconfirmed
   abbrev pub takes_more : Line T → Bool
@@ -60,15 +62,18 @@ module _ {T : Type 0} where
   abbrev pub link_of : List (Option (Line T)) → ℕ → Option (Line T)
   link_of links peer = slice_index_or links peer None
 
-  -- an answer of the peer: a Got has the number of the last message that it has taken, and else it is a Know
-  abbrev pub answered : ℕ → List ℕ → Line T → Line T
-  answered at frame line = if is_of 5 frame then record line { asked = Some at; got = number_in frame } else record line { asked = Some at; awaited = false }
+  -- a frame of the peer: a Got has the number of the last message that it has taken, and a Know answers a Delta
+  abbrev pub heard_from : ℕ → List ℕ → Line T → Line T
+  heard_from at frame line =
+      if is_of 5 frame then record line { heard = true; asked = again at line.asked; got = number_in frame }
+      else if is_of 3 frame then record line { heard = true; asked = again at line.asked; awaited = false }
+      else record line { heard = true }
 
   abbrev pub noted : ℕ → ℕ → List ℕ → Option (Line T) → Option (Line T)
   noted peer at frame None = None
-  noted peer at frame (Some line) = Some (if is_from peer frame && is_answer frame then answered at frame line else line)
+  noted peer at frame (Some line) = Some (if is_from peer frame then heard_from at frame line else line)
 
-  -- an answer is noted on the link of the peer that has sent it
+  -- a frame is noted on the link of the peer that has sent it
   abbrev pub Noted : ℕ → List ℕ → List (Option (Line T)) → List (Option (Line T)) → Type 0
   Noted at frame old new = (peer : ℕ) → link_of new peer ≡ noted peer at frame (link_of old peer)
 

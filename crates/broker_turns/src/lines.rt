@@ -1,20 +1,21 @@
 //! Links between nodes, and what is given out for them.
 ghost use Rattle.std.specs.Prelude.{◌≡◌, ◌<◌, ◌^◌, ◌∷◌, [], length, option_map, slice_index_or, OnOk, OnErr, IfOk};
-ghost use Rattle.broker_turns.specs.Lines.{Framed, Noted, answered, asks_for, four_at, fresh_line, is_answer, is_due, is_of, is_rested, is_unanswered, link_of, marked, number_in, pushed, takes_more};
+ghost use Rattle.broker_turns.specs.Lines.{Framed, Noted, again, asks_for, four_at, fresh_line, heard_from, is_due, is_of, is_rested, is_unanswered, link_of, marked, number_in, pushed, takes_more};
 ghost use Rattle.broker_turns.specs.Bridging.{IsLineRead, IsLineWritten, Relinks};
 ghost use Rattle.broker_turns.specs.Broken.{IsReadOnce};
 
 use broker_sockets::{Answer, Held, PeerEventKind, PeerFrame, Sockets, Unsent};
 use std::alloc::{AllocError, Global};
 
-/// One socket between two nodes: what came of a frame that isn't whole yet, and what waits to be written; when more was asked for last, if
-/// frames came of that, or the peer answered last; whether its answer to a Delta is awaited; and the numbers of the last Forward that was given
-/// for the link and of the last Got of the peer, 0 where there was none.
+/// One socket between two nodes: what came of a frame that isn't whole yet, and what waits to be written; whether a frame of the peer came since the link began; when
+/// more was asked for last, if frames came of that, or the peer answered last; whether its answer to a Delta is awaited; and the numbers of the last Forward that was
+/// given for the link and of the last Got of the peer, 0 where there was none.
 #[derive(Drop)]
 pub struct Line<T: Drop> {
     pub stream: T,
     pub held: Held,
     pub unsent: Unsent,
+    pub heard: bool,
     pub asked: Option<u64>,
     pub awaited: bool,
     pub sent: u64,
@@ -76,13 +77,6 @@ fn is_of(kind: u8, frame: &[u8]) -> bool
     frame.len() > KIND && frame[KIND] == kind
 }
 
-/// Whether a frame answers another one.
-fn is_answer(frame: &[u8]) -> bool
-    ensures { result ≡ is_answer frame.now }
-{
-    is_of(GOT, frame) || is_of(KNOW, frame)
-}
-
 /// The byte at a place of a frame, or 0 behind its end.
 fn byte_at(place: usize, frame: &[u8]) -> u64
     ensures same { result ≡ slice_index_or frame.now place 0 }
@@ -112,6 +106,16 @@ fn number_in(frame: &[u8]) -> u64
     four_at(NUMBER, frame) * 4294967296 + four_at(NUMBER + 4, frame)
 }
 
+/// A moment in place of another one, where there was one.
+fn again(at: u64, last: Option<u64>) -> Option<u64>
+    ensures { result ≡ again at last }
+{
+    match last {
+        Some(_) => Some(at),
+        None => None,
+    }
+}
+
 impl<T: Drop> Line<T> {
     /// A link on which nothing has come and nothing waits.
     pub fn new(alloc: Global, stream: T) -> Self
@@ -121,6 +125,7 @@ impl<T: Drop> Line<T> {
             stream,
             held: Held::new(alloc),
             unsent: Unsent::new(alloc),
+            heard: false,
             asked: None,
             awaited: false,
             sent: 0,
@@ -135,11 +140,12 @@ impl<T: Drop> Line<T> {
         self.awaited || self.got < self.sent
     }
 
-    /// Whether all that the peer may lack is to be asked for at a moment, from the first on.
+    /// Whether all that the peer may lack is to be asked for at a moment, from the first on. Before the peer is heard it isn't known what it lacks: its Know tells that.
     fn is_due(&self, at: u64) -> bool
         ensures { result ≡ is_due at self.now }
     {
-        self.unsent.len() == 0
+        self.heard
+            && self.unsent.len() == 0
             && (self.asked.is_none()
                 || (self.is_unanswered() && is_rested(SILENCE, self.asked, at)))
     }
@@ -192,14 +198,16 @@ impl<T: Drop> Line<T> {
         }
     }
 
-    /// The peer answered at a moment.
-    fn take_answer(&mut self, at: u64, frame: &[u8])
-        ensures { self.new ≡ answered at frame.now self.old }
+    /// A frame of the peer came at a moment.
+    fn hear(&mut self, at: u64, frame: &[u8])
+        ensures { self.new ≡ heard_from at frame.now self.old }
     {
-        self.asked = Some(at);
+        self.heard = true;
         if is_of(GOT, frame) {
+            self.asked = again(at, self.asked);
             self.got = number_in(frame);
-        } else {
+        } else if is_of(KNOW, frame) {
+            self.asked = again(at, self.asked);
             self.awaited = false;
         }
     }
@@ -252,26 +260,26 @@ pub fn write_line<S: Sockets>(line: &mut Line<S::Stream>, sockets: &mut S) -> bo
     }
 }
 
-/// Notes on the link of a peer, if there is one, that it has answered at a moment by a frame.
-fn note_answer<T: Drop>(links: &mut [Option<Line<T>>], at: u64, frame: &[u8], peer: usize)
+/// Notes on the link of a peer, if there is one, that a frame of it came at a moment.
+fn note_frame<T: Drop>(links: &mut [Option<Line<T>>], at: u64, frame: &[u8], peer: usize)
     requires { peer < length links.old }
-    ensures { Relinks links.old links.new peer (option_map (answered at frame.now) (link_of links.old peer)) }
+    ensures { Relinks links.old links.new peer (option_map (heard_from at frame.now) (link_of links.old peer)) }
 {
     if let Some(line) = &mut links[peer] {
-        line.take_answer(at, frame);
+        line.hear(at, frame);
     }
 }
 
-/// Notes on the link of the node that sends a frame, if there is one, that it has answered at a moment, where the frame is an answer.
+/// Notes on the link of the node that sends a frame, if there is one, that it came at a moment.
 pub fn note_sender<T: Drop>(links: &mut [Option<Line<T>>], at: u64, frame: &[u8])
     ensures { Noted at frame.now links.old links.new }
 {
-    if frame.len() <= SENDER + 1 || !is_answer(frame) {
+    if frame.len() <= SENDER + 1 {
         return;
     }
     let peer = usize::from(frame[SENDER]) * 256 + usize::from(frame[SENDER + 1]);
     if peer < links.len() {
-        note_answer(links, at, frame, peer);
+        note_frame(links, at, frame, peer);
     }
 }
 

@@ -37,7 +37,7 @@ fn hear_one<H: BridgeHandler, T: Drop>(
     }
 }
 
-/// The handler is handed a frame, and the link of the node that sends it notes that it has answered.
+/// The handler is handed a frame, and the link of the node that sends it notes that it came.
 fn hear_frame<H: BridgeHandler, T: Drop>(
     clients: &mut Clients<T>,
     links: &mut [Option<Line<T>>],

@@ -265,7 +265,7 @@ module _
           → IsShippedIf hears at (if due then Some (Ship peer) else if more then Some (More peer line.sent) else None) peer n n' → Made false (of_near n) (of_near n')
       shipped_if true more peer line n n' due takes found is =
           let call = Tells (Of_peer (peer_event at (Ship peer)) is.1.given) in
-          let none : line.unsent ≡ [] = none_waits line.unsent (and_both _ _ due).0 in
+          let none : line.unsent ≡ [] = none_waits line.unsent (and_both _ _ (and_both _ _ due).1).0 in
           let tells = walked_hearing accepts watches connects reads writes finds handles hears settles setting at (peer_event at (Ship peer)) s n is.0 a is.1 refl (for_peer (λ (x : Channel T). x.waits ≡ []) peer line n found none) in
           let last = still accepts watches connects reads writes finds handles hears settles setting at (of_near is.0) (of_near n') refl is.2.handler (marked_still s is.0 n' peer is.2) in
           made (call ∷ []) (of_near n) (of_near n') (goes (call ∷ []) [] (of_near n) (of_near is.0) (of_near n') tells last) refl refl refl

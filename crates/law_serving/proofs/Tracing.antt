@@ -29,7 +29,7 @@ use Rattle.broker_turns.specs.Bridging.{HearsAll, Near, Place, peer_event, place
 use Rattle.broker_turns.specs.Clients.{closed, fresh, room_of, takes_more, told, told_all, told_at}
 use Rattle.broker_turns.specs.Connections.{IsAccepted, IsHandled, IsHeard, IsLost, IsNobodyAccepted, IsParted, IsReadIf, IsReadIn, IsRoomIf, IsRoomIn, IsRoomMade, IsWelcomed, IsWroteIn, World, event}
 use Rattle.broker_turns.specs.Handling.Told.{Of_client, Of_peer}
-use Rattle.broker_turns.specs.Lines.{Noted, answered, is_answer, is_from, is_of, link_of, noted, number_in}
+use Rattle.broker_turns.specs.Lines.{Noted, again, heard_from, is_from, is_of, link_of, noted, number_in}
 use Rattle.broker_turns.specs.Writing.{Tried, fate_by_size, fate_of}
 use Rattle.broker_turns.proofs.Rooming.{takes-low}
 use Rattle.law_serving.specs.Calls.{Accepts, Accepts_link, Call, Dials, Finds, IsAsked, IsAt, IsDone, Has_come, IsAmong, IsWrittenTo, Is_gone, Lets_go, News, Reads, Reads_link, Rests, Settles, Tells, Through, Watches, Writes, beats, brings, framed, tells_of, writes_to}
@@ -88,16 +88,19 @@ module _ {T : Type 0} where
   closes_empty : (left : Client T) → (left.closing && eqb (length left.unsent) 0) ≡ true → (left.closing ≡ true) × (left.unsent ≡ [])
   closes_empty left is = let both = and_both left.closing (eqb (length left.unsent) 0) is in (both.0, none_waits left.unsent both.1)
 
-  answered_same : (got : Bool) (at : ℕ) (frame : List ℕ) (line : Line T) → of_line (if got then record line { asked = Some at; got = number_in frame } else record line { asked = Some at; awaited = false }) ≡ of_line line
-  answered_same true at frame line = refl
-  answered_same false at frame line = refl
+  heard_same : (got know : Bool) (at : ℕ) (frame : List ℕ) (line : Line T)
+      → of_line (if got then record line { heard = true; asked = again at line.asked; got = number_in frame }
+          else if know then record line { heard = true; asked = again at line.asked; awaited = false } else record line { heard = true }) ≡ of_line line
+  heard_same true know at frame line = refl
+  heard_same false true at frame line = refl
+  heard_same false false at frame line = refl
 
   noted_same : (peer at : ℕ) (frame : List ℕ) (o : Option (Line T)) → option_map of_line (noted peer at frame o) ≡ option_map of_line o
   noted_same peer at frame None = refl
-  noted_same peer at frame (Some line) = ap (λ (x : Channel T). Some x) (by (is_from peer frame && is_answer frame))
+  noted_same peer at frame (Some line) = ap (λ (x : Channel T). Some x) (by (is_from peer frame))
     where
-      by : (b : Bool) → of_line (if b then answered at frame line else line) ≡ of_line line
-      by true = answered_same (is_of 5 frame) at frame line
+      by : (b : Bool) → of_line (if b then heard_from at frame line else line) ≡ of_line line
+      by true = heard_same (is_of 5 frame) (is_of 3 frame) at frame line
       by false = refl
 
   pub holds_at : (b : Bool) (is : Channel T → Type 0) (o : Option (Channel T)) → (b ≡ true → (x : Channel T) × (o ≡ Some x) × is x) → Holds b is o
