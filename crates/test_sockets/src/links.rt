@@ -90,7 +90,11 @@ fn only_links_that_are_told_are_read(rt: HostRuntime) -> Result<(), Fail> {
     Ok(())
 }
 
-/// So many turns of a node with one peer, each so many milliseconds after the one before.
+/// A Hello of node 0, which is the peer.
+const HEARD: &[u8] = b"\0\0\0\x05\x01\0\0\0\x01";
+
+/// So many turns of a node with one peer, which has begun a link and says Hello there, each so many milliseconds after the one before. The peer's link is the first
+/// stream, and the second is the one that is dialled first.
 fn link(
     rt: &impl Abort,
     alloc: Global,
@@ -103,9 +107,10 @@ fn link(
     let peers = Vec::from_array(alloc, [Some(peer)]).expect(rt, "memory");
     let mut hub = hub_of(rt, alloc, network, peers);
     let mut talker = Talker::new(alloc, b"hi", b"more", u32::MAX);
+    network.client(2, HEARD, 64, 64).expect(rt, "memory");
     for turn in 0..turns {
         if turn == fails_at {
-            network.fail(1);
+            network.fail(3);
         }
         let at = turn.saturating_mul(each);
         assert!(rt; hub.turn(network, &mut talker, at).is_ok());
@@ -128,7 +133,7 @@ fn is_dialled(
     network.piece = 1;
     let talker = link(rt, alloc, &mut network, turns, each, u64::MAX);
     assert!(rt; (network.connects, talker.linked, talker.shipped) == wanted);
-    assert!(rt; network.came(1) == came);
+    assert!(rt; network.came(3) == came);
     drop(talker);
     drop(network);
 }
@@ -143,13 +148,15 @@ fn peers_are_dialled_until_they_answer(rt: HostRuntime) -> Result<(), Fail> {
     is_dialled(&rt, alloc, 2, (4, 500), (2, 0, 0), b"");
     is_dialled(&rt, alloc, 2, (5, 500), (3, 1, 0), b"h");
     // more isn't asked for where something waits
-    is_dialled(&rt, alloc, 2, (6, 500), (3, 1, 0), b"hi");
-    is_dialled(&rt, alloc, 2, (7, 500), (3, 1, 1), b"him");
-    is_dialled(&rt, alloc, 2, (10, 500), (3, 1, 1), b"himore");
+    // nor before the peer's Hello, of which a byte is read in each turn from the third on
+    is_dialled(&rt, alloc, 2, (10, 500), (3, 1, 0), b"hi");
+    is_dialled(&rt, alloc, 2, (11, 500), (3, 1, 1), b"him");
+    is_dialled(&rt, alloc, 2, (14, 500), (3, 1, 1), b"himore");
     // all is asked for once
-    is_dialled(&rt, alloc, 2, (12, 500), (3, 1, 1), b"himore");
-    is_dialled(&rt, alloc, 0, (6, 1), (1, 1, 1), b"himore");
-    is_dialled(&rt, alloc, 0, (8, 1), (1, 1, 1), b"himore");
+    is_dialled(&rt, alloc, 2, (16, 500), (3, 1, 1), b"himore");
+    is_dialled(&rt, alloc, 0, (10, 1), (1, 1, 0), b"hi");
+    is_dialled(&rt, alloc, 0, (14, 1), (1, 1, 1), b"himore");
+    is_dialled(&rt, alloc, 0, (16, 1), (1, 1, 1), b"himore");
     Ok(())
 }
 
@@ -171,12 +178,13 @@ const GOT_SEVEN: &[u8] = b"\0\0\0\x0d\x05\0\0\0\x01\0\0\0\0\0\0\0\x07";
 
 const KNOW: &[u8] = b"\0\0\0\x05\x03\0\0\0\x01";
 
-/// How often a peer is given this frame in so many turns, a millisecond after each other, where a link brings these bytes after five; how often
-/// more is asked for than was given, and after which number last.
-fn supplied(
+/// How often a peer is given this frame in so many turns, a millisecond after each other, where a link brings the first bytes, which are read in the third turn, and the others after
+/// five; how often more is asked for than was given, and after which number last.
+fn supplied_once(
     rt: &impl Abort,
     alloc: Global,
     frame: &'static [u8],
+    first: &[u8],
     bytes: &[u8],
     turns: u64,
 ) -> (u32, u32, u64) {
@@ -185,7 +193,7 @@ fn supplied(
     let peers = Vec::from_array(alloc, [Some(peer)]).expect(rt, "memory");
     let mut hub = hub_of(rt, alloc, &mut network, peers);
     let mut talker = Talker::new(alloc, b"hi", frame, u32::MAX);
-    let other = network.client(2, b"", 64, 64).expect(rt, "memory");
+    let other = network.client(2, first, 64, 64).expect(rt, "memory");
     for at in 0..turns {
         if at == 5 {
             network.send(other, bytes).expect(rt, "memory");
@@ -196,14 +204,46 @@ fn supplied(
     (talker.shipped, talker.more_asked, talker.after)
 }
 
+/// The same where the peer is heard at first.
+fn supplied(
+    rt: &impl Abort,
+    alloc: Global,
+    frame: &'static [u8],
+    bytes: &[u8],
+    turns: u64,
+) -> (u32, u32, u64) {
+    supplied_once(rt, alloc, frame, HEARD, bytes, turns)
+}
+
+#[test]
+fn a_peer_is_given_nothing_before_it_is_heard(rt: HostRuntime) -> Result<(), Fail> {
+    let alloc = rt.alloc();
+    // nothing, Hellos of node 1 and node 256, and one that isn't whole
+    let others = [
+        b"".as_slice(),
+        b"\0\0\0\x05\x01\0\x01\0\0",
+        b"\0\0\0\x05\x01\x01\0\0\0",
+        b"\0\0\0\x05\x01\0\0\0",
+    ];
+    for first in others {
+        assert!(rt; supplied_once(&rt, alloc, SEVENTH, first, b"", 2000) == (0, 0, 0));
+    }
+    for bytes in [HEARD, GOT_ONE, KNOW, b"\0\0\0\x05\x06\0\0\0\x01"] {
+        assert!(rt; supplied_once(&rt, alloc, SEVENTH, b"", bytes, 6) == (0, 0, 0));
+        assert!(rt; supplied_once(&rt, alloc, SEVENTH, b"", bytes, 7) == (1, 0, 0));
+    }
+    Ok(())
+}
+
 #[test]
 fn a_peer_is_given_more_than_it_was_given(rt: HostRuntime) -> Result<(), Fail> {
     let alloc = rt.alloc();
     let cases = [
-        (SEVENTH, b"".as_slice(), 2, (1, 0, 0)),
-        (SEVENTH, b"", 9, (1, 7, 7)),
+        (SEVENTH, b"".as_slice(), 2, (0, 0, 0)),
+        (SEVENTH, b"", 3, (1, 0, 0)),
+        (SEVENTH, b"", 9, (1, 6, 7)),
         // fewer than 16,384 messages are unconfirmed
-        (LAST_BUT_ONE, b"", 9, (1, 7, 16383)),
+        (LAST_BUT_ONE, b"", 9, (1, 6, 16383)),
         (LAST, b"", 9, (1, 0, 0)),
         (LAST, GOT_ONE, 9, (1, 3, 16384)),
         // the answer to a Delta is waited for
@@ -211,7 +251,7 @@ fn a_peer_is_given_more_than_it_was_given(rt: HostRuntime) -> Result<(), Fail> {
         (DELTA, GOT_ONE, 9, (1, 0, 0)),
         (DELTA, KNOW, 9, (1, 3, 0)),
         // what nobody answers isn't
-        (HELLO, b"", 9, (1, 7, 0)),
+        (HELLO, b"", 9, (1, 6, 0)),
     ];
     for (frame, bytes, turns, wanted) in cases {
         assert!(rt; supplied(&rt, alloc, frame, bytes, turns) == wanted);
@@ -234,7 +274,7 @@ fn a_silent_peer_is_given_all_after_a_second(rt: HostRuntime) -> Result<(), Fail
         b"\0\0\0\x05\x04\0\0\0\x01",
         b"\0\0\0\x05\x06\0\0\0\x01",
     ];
-    for (turns, times) in [(1001, 1), (1002, 2)] {
+    for (turns, times) in [(1002, 1), (1003, 2)] {
         for bytes in others {
             let (shipped, _, _) = supplied(&rt, alloc, SEVENTH, bytes, turns);
             assert_eq!(rt; shipped, times, "{turns} turns");
@@ -260,14 +300,14 @@ fn failed_links_are_dialled_again(rt: HostRuntime) -> Result<(), Fail> {
     let mut network = FakeSockets::new(alloc);
     network.piece = 0;
     let talker = link(&rt, alloc, &mut network, 9, 500, u64::MAX);
-    assert!(rt; talker.linked == 1 && talker.shipped == 0 && network.came(1).is_empty());
+    assert!(rt; talker.linked == 1 && talker.shipped == 0 && network.came(3).is_empty());
     // one whose write fails is let go, and dialled again after the pause
     for (turns, linked) in [(3, 1), (4, 2)] {
         let mut network = FakeSockets::new(alloc);
         let talker = link(&rt, alloc, &mut network, turns, 400, 1);
         assert!(rt; talker.linked == linked && talker.shipped == 1);
-        assert!(rt; network.came(1) == b"hi".as_slice());
-        assert!(rt; network.came(3) == (if linked == 2 { b"hi".as_slice() } else { &[] }));
+        assert!(rt; network.came(3) == b"hi".as_slice());
+        assert!(rt; network.came(5) == (if linked == 2 { b"hi".as_slice() } else { &[] }));
     }
     // one that can't be watched is none
     let mut network = FakeSockets::new(alloc);
