@@ -64,6 +64,7 @@ def of_what_was_not_allowed(not_allowed):
         "mqtt_publishes_refused_total": not_allowed["publishes"],
         "mqtt_filters_refused_total": not_allowed["filters"],
         "mqtt_messages_withheld_total": not_allowed["messages"],
+        "mqtt_links_refused_total": not_allowed["links"],
     }
 
 

@@ -122,11 +122,19 @@ with_users app = with_rule (with_rule (with_rule app (file_rule (codes "users"))
 abbrev pub node_words : Text → App
 node_words name = with_rule (with_rule (with_rule (new_app name) (word_rule (codes "CONFIG"))) (word_rule (codes "NODE"))) (word_rule (codes "DATABASE"))
 
--- where a node tells its status, by which hosts it may be asked, and where it waits for clients and for other nodes: `[--status ADDRESS] [--status-host NAMES]
--- [--listen ADDRESS] [--bridge-listen ADDRESS]`
+-- `--bridge-from-anywhere`
+abbrev pub anywhere_rule : Rule
+anywhere_rule = record (new_rule (codes "bridge-from-anywhere")) {
+  long = Some (codes "bridge-from-anywhere");
+  action = Some SetTrue;
+}
+
+-- where a node tells its status, by which hosts it may be asked, where it waits for clients and for other nodes, and whether these may come from anywhere:
+-- `[--status ADDRESS] [--status-host NAMES] [--listen ADDRESS] [--bridge-listen ADDRESS] [--bridge-from-anywhere]`
 abbrev pub with_addresses : App → App
 with_addresses app =
-    with_rule (with_rule (with_rule (with_rule app (address_rule (codes "status"))) (address_rule (codes "status-host"))) (address_rule (codes "listen"))) (address_rule (codes "bridge-listen"))
+    with_rule (with_rule (with_rule (with_rule (with_rule app (address_rule (codes "status"))) (address_rule (codes "status-host"))) (address_rule (codes "listen"))) (address_rule (codes "bridge-listen")))
+    anywhere_rule
 
 -- the options of a node: `[--most-clients N] [--connect-within SECONDS] [--mqtt3] [--log]`, the addresses, the limits and who may come
 abbrev pub with_options : App → App
@@ -239,6 +247,7 @@ IsNode rows made (Serve asked) =
     × IsFlag rows (codes "mqtt3") asked.mqtt3 × IsFlag rows (codes "log") asked.log
     × IsTextIf rows (codes "status") asked.status × IsTextIf rows (codes "status-host") asked.status_hosts
     × IsTextIf rows (codes "listen") asked.listen × IsTextIf rows (codes "bridge-listen") asked.bridge_listen
+    × IsFlag rows (codes "bridge-from-anywhere") asked.from_anywhere
     × AreLimits rows asked.limits × AreUsers rows asked.users
 IsNode rows made (Check configuration node database) = ⊥
 IsNode rows made (Password name) = ⊥

@@ -6,7 +6,7 @@ ghost use Rattle.clap.specs.Words.{HasKind, app_of, fault_of, found_of, kind_of,
 ghost use Rattle.clap.specs.declared.builder.command.Command.TheViews.{out-Command as fields_of};
 ghost use Rattle.broker_command.specs.Line.{broker, play, loopback, node_words, with_options, serve, run, check, password, balancer, word_rule, option_rule, turns_rule, most_clients_rule, connect_within_rule, mqtt3_rule, log_rule, IsFlag, IsNumberIf, IsTextIf, IsTask, IsOf, IsPlay, IsLoopback, IsNode, IsServe, IsRun, IsCheck, IsPassword, IsBalancer, IsScript, IsRefusal, IsStopOf};
 
-use crate::addresses::with_addresses;
+use crate::addresses::{is_from_anywhere, with_addresses};
 use crate::dropping::{drop_command, drop_task};
 use crate::limits::{limits_of, with_limits};
 use crate::task::{AskedService, Task};
@@ -363,6 +363,7 @@ fn node_task(
         status_hosts: text_of(alloc, found, "status-host")?,
         listen: text_of(alloc, found, "listen")?,
         bridge_listen: text_of(alloc, found, "bridge-listen")?,
+        from_anywhere: is_from_anywhere(found),
     })))
 }
 

@@ -61,6 +61,8 @@ pub struct AskedService {
     pub listen: Option<String>,
     /// Where it waits for other nodes, if not at the address of its bridge.
     pub bridge_listen: Option<String>,
+    /// Whether links of other nodes are taken from any IP address, and not from those of the bridges in the configuration alone.
+    pub from_anywhere: bool,
 }
 
 /// What a command line asks to drop from the rows of a node that is down.

@@ -1,7 +1,7 @@
 -- From where links are taken that other nodes begin.
-use Rattle.std.specs.Prelude.{◌≡◌, ◌⊎◌, ◌==◌, ℕ, Bool, true, false, List, Option, Some, None}
+use Rattle.std.specs.Prelude.{◌≡◌, ◌⊎◌, ◌==◌, ℕ, Bool, true, false, Option, Some, None, Vec}
 use Rattle.std.specs.List.{list_any}
-use Rattle.std.specs.declared.vec.Vec.{Vec}
+use Rattle.std.specs.declared.alloc.Global.{Global}
 use Rattle.broker_sockets.specs.declared.ready.Watched.{Watched}
 use Rattle.broker_sockets.specs.declared.ready.Watched.TheVariants.{Link}
 use Rattle.broker_holds.specs.declared.links.GuardedLinks.{GuardedLinks}
@@ -10,7 +10,7 @@ abbrev pub is_same : ℕ → ℕ → Bool
 is_same origin bridge = bridge == origin
 
 -- a link is taken from anywhere where no addresses are given, and else from one of these
-abbrev pub takes : Option (Vec ℕ) → Option ℕ → Bool
+abbrev pub takes : Option (Vec ℕ Global) → Option ℕ → Bool
 takes None origin = true
 takes (Some bridges) None = false
 takes (Some bridges) (Some origin) = list_any (is_same origin) bridges.items

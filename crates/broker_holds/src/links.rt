@@ -34,12 +34,7 @@ pub trait Origins: Readiness {
 fn is_among(bridges: &[u128], origin: u128) -> bool
     ensures { result ≡ list_any (is_same origin) bridges.now }
 {
-    for bridge in bridges {
-        if *bridge == origin {
-            return true;
-        }
-    }
-    false
+    bridges.iter().any(|bridge| *bridge == origin)
 }
 
 /// Whether a link from an origin is taken: from anywhere, where no addresses are given.

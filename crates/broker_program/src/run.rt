@@ -61,6 +61,7 @@ fn service_of(asked: &AskedService) -> Service<'_> {
             clients: text_in(&asked.listen),
             nodes: text_in(&asked.bridge_listen),
         },
+        from_anywhere: asked.from_anywhere,
         bounds: bounds_of(&asked.limits),
         limits: Limits::new(asked.most_clients, asked.connect_within),
         mqtt3: asked.mqtt3,

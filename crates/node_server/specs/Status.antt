@@ -29,9 +29,13 @@ HasWritten d = waiting_in (keeper_of (served_behind d)) ≡ []
 abbrev pub guarded_behind : {R F G E : Type 0} → TalliedNode R F G E → GuardedNode R F
 guarded_behind d = bounded_in (connected_in (limited_in (inside_of d)))
 
--- what users were not allowed
-abbrev pub not_allowed_by : Refusals → NotAllowed
-not_allowed_by n = record { publishes = n.publishes; filters = n.filters; messages = n.messages }
+-- what was not allowed, with so many links
+abbrev pub not_allowed_by : Refusals → ℕ → NotAllowed
+not_allowed_by n links = record { publishes = n.publishes; filters = n.filters; messages = n.messages; links = links }
+
+-- what users were not allowed is what was counted; of links nothing is said
+abbrev pub IsOfUsers : Refusals → NotAllowed → Type 0
+IsOfUsers n told = told ≡ not_allowed_by n told.links
 
 -- the door counts, and the figures are those of the node, if it runs, and of what was counted; what users were not allowed is what the handler with users counted
 pub record IsTold {R F G E : Type 0} (teller : NodeTeller) (d : TalliedNode R F G E) (at : ℕ) (figures : Figures) : Type 0 where
@@ -39,4 +43,4 @@ pub record IsTold {R F G E : Type 0} (teller : NodeTeller) (d : TalliedNode R F 
   pub counts : tally_of d ≡ Some tally
   pub are : (h : HeldView) → (node_in (keeper_of (served_behind d))).up ≡ Some h
       → AreFigures (string_bytes teller.name) teller.since at (node_in (keeper_of (served_behind d))) h tally figures
-  pub not_allowed : figures.not_allowed ≡ not_allowed_by (refusals_of (guarded_behind d).door)
+  pub not_allowed : IsOfUsers (refusals_of (guarded_behind d).door) figures.not_allowed

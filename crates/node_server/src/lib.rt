@@ -22,4 +22,5 @@ pub use stack::{
     BoundedNode, GuardedNode, LimitedNode, LoggedNode, TabledNode, TalliedNode, ViewedNode,
 };
 pub use status::{NodeTeller, StatusPlace};
+pub use straining::bridges_of;
 pub use viewed::{Viewed, Viewer, viewing_changes_nothing};

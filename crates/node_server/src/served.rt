@@ -47,6 +47,14 @@ impl<R: RowStore> ServedNode<R> {
         self.lanes = lanes;
     }
 
+    /// How many links were closed since they came from elsewhere than a bridge of the table; none where nobody counts them.
+    pub(crate) fn links_refused(&self) -> u64 {
+        match &self.lanes {
+            Some(lanes) => lanes.links_refused(),
+            None => 0,
+        }
+    }
+
     /// The node.
     pub fn node(&self) -> &Node
         ensures { result.now ≡ node_in self.now.keeper }

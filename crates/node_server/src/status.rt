@@ -55,14 +55,15 @@ fn refusal_of<F: Tables>(tables: Option<&F>) -> Option<&str> {
     }
 }
 
-/// What users were not allowed, as it is told.
-fn not_allowed_by(refusals: Refusals) -> NotAllowed
-    ensures { result ≡ not_allowed_by refusals }
+/// What users were not allowed, and how many links, as it is told.
+fn not_allowed_by(refusals: Refusals, links: u64) -> NotAllowed
+    ensures { result ≡ not_allowed_by refusals links }
 {
     NotAllowed {
         publishes: refusals.publishes,
         filters: refusals.filters,
         messages: refusals.messages,
+        links,
     }
 }
 
@@ -85,7 +86,9 @@ impl<R: RowStore, F: Tables, G, E> Teller<TalliedNode<R, F, G, E>> for NodeTelle
         let refusals = guarded.refusals();
         let tabled = guarded.inside();
         let refusal = refusal_of(tabled.tables());
-        let node = tabled.inside().node();
+        let served = tabled.inside();
+        let links = served.links_refused();
+        let node = served.node();
         match figures_of(
             alloc,
             self.name.as_str(),
@@ -93,7 +96,7 @@ impl<R: RowStore, F: Tables, G, E> Teller<TalliedNode<R, F, G, E>> for NodeTelle
             node,
             tally,
             refusal,
-            not_allowed_by(refusals),
+            not_allowed_by(refusals, links),
             at,
         ) {
             Ok(figures) => Ok(Some(figures)),

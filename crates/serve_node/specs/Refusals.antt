@@ -1,4 +1,4 @@
--- What is told where nobody can be accepted, where nobody can tell how much memory is held, and where clients are held back.
+-- What is told where nobody can be accepted, where nobody can tell how much memory is held, where clients are held back, and where a link of another node is closed.
 use Rattle.std.specs.Prelude.{ℕ, List, ◌++◌, ◌||◌, ◌==◌, if◌then◌else◌, codes}
 use Rattle.cli_stops.specs.Answers.{answer_text}
 use Rattle.cli_stops.specs.declared.answer.Answer.{Answer}
@@ -19,3 +19,7 @@ unread_line = codes "broker: reading /proc/self/statm: it can not be read, so --
 -- clients that publish wait
 abbrev pub held_line : List ℕ
 held_line = codes "broker: more than 4096 messages wait for another node: clients that publish are held back\n"
+
+-- a link comes from elsewhere than the bridges of the table
+unfoldable pub stranger_line : List ℕ → List ℕ
+stranger_line address = codes "broker: a link from " ++ address ++ codes " was closed: no bridge of the table of homes has that address (--bridge-from-anywhere takes it)\n"

@@ -1,10 +1,10 @@
-//! What is told where nobody can be accepted, and where clients are held back.
+//! What is told where nobody can be accepted, where clients are held back, and where a link of another node is closed.
 
 ghost use Rattle.std.specs.Prelude.{OnOk};
 ghost use Rattle.std.specs.Io.KnownBytes.{Appends};
 ghost use Rattle.std.specs.IoError.{error_kind, raw_os_error};
 ghost use Rattle.cli_stops.specs.Answers.{answer_in};
-ghost use Rattle.serve_node.specs.Refusals.{held_line, refusal_line};
+ghost use Rattle.serve_node.specs.Refusals.{held_line, refusal_line, stranger_line};
 
 use cli_stops::{Answer, answer_of};
 use std::io::{self, Write};
@@ -28,5 +28,15 @@ pub(crate) fn tell_held<E: Write>(error: &mut E) -> io::Result<()>
     writeln!(
         error,
         "broker: more than 4096 messages wait for another node: clients that publish are held back"
+    )
+}
+
+/// Writes that a link from an address was closed, as a line.
+pub(crate) fn tell_stranger<E: Write>(error: &mut E, address: &str) -> io::Result<()>
+    ensures { OnOk result (Appends (E.contents error.old) (E.contents error.new) (stranger_line address.now)) }
+{
+    writeln!(
+        error,
+        "broker: a link from {address} was closed: no bridge of the table of homes has that address (--bridge-from-anywhere takes it)"
     )
 }

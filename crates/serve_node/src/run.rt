@@ -9,7 +9,7 @@ use crate::service::{Named, Service, StatusAt};
 use crate::source::ConfigurationFile;
 use crate::status::StatusSockets;
 use crate::telling::{Refused, TellingSockets};
-use broker_holds::{HoldingSockets, Strain};
+use broker_holds::{GuardedLinks, HoldingSockets, Strain};
 use broker_sockets::{PolledSockets, RealClocks, SteadyClock};
 use cli_files::{TableFile, configuration_bytes, configuration_of, unread};
 use cli_stops::{Ending, RunFault, Stop};
@@ -17,7 +17,7 @@ use door_bounds::{BoundLimits, ProcessMemory};
 use door_tables::Tables;
 use door_users::FileAccess;
 use home_table::HomeTable;
-use node_server::StatusPlace;
+use node_server::{StatusPlace, bridges_of};
 use row_database::{Wary, open_rows};
 use row_store::RowStore;
 use std::fs::File;
@@ -169,6 +169,21 @@ fn shared(strain: &Rc<Strain>) -> Result<Rc<Strain>, Stop> {
     }
 }
 
+/// The addresses from which links of other nodes are taken: those of the bridges of a table, or none where they are taken from anywhere.
+fn bridges_for(
+    rt: &HostRuntime,
+    homes: &HomeTable,
+    from_anywhere: bool,
+) -> Result<Option<Vec<u128>>, Stop> {
+    if from_anywhere {
+        return Ok(None);
+    }
+    match bridges_of(rt.alloc(), homes) {
+        Ok(bridges) => Ok(Some(bridges)),
+        Err(_) => Err(Stop::Run(RunFault::NoMemory)),
+    }
+}
+
 /// How many turns are made.
 fn turns_of(service: &Service<'_>) -> u64 {
     match service.turns {
@@ -196,7 +211,9 @@ fn serve_rows<R: RowStore + Drop, F: Tables + Drop>(
     let strain = strain_of(rt, place.0.nodes())?;
     let mut refused_here = None;
     let telling = TellingSockets::new(polled, rt.stderr(), shared(&strain)?, &mut refused_here);
-    let mut sockets = HoldingSockets::new(rt.alloc(), telling, shared(&strain)?);
+    let bridges = bridges_for(rt, &place.0, service.from_anywhere)?;
+    let guarded = GuardedLinks::new(telling, bridges, shared(&strain)?);
+    let mut sockets = HoldingSockets::new(rt.alloc(), guarded, shared(&strain)?);
     let mut clock = SteadyClock::new(RealClocks::new(rt));
     let mut refused_status = None;
     let most_memory = service.bounds.most_memory;

@@ -27,6 +27,8 @@ pub struct StatusAt<'a> {
 pub struct Service<'a> {
     /// Where it waits for clients and for other nodes.
     pub at: ListenAt<'a>,
+    /// Whether links of other nodes are taken from any IP address, and not from those of the bridges in its table of homes alone.
+    pub from_anywhere: bool,
     /// Limits on what clients send.
     pub bounds: BoundLimits,
     /// Limits on clients.

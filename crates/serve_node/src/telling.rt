@@ -1,18 +1,18 @@
-//! The sockets of the system, which tell why nobody can be accepted, and that clients are held back.
+//! The sockets of the system, which tell why nobody can be accepted, that clients are held back, and that a link of another node was closed.
 
-ghost use Rattle.std.specs.Prelude.{ℕ};
+ghost use Rattle.std.specs.Prelude.{ℕ, Option};
 
-use crate::refusal::{tell_held, tell_refusal};
-use broker_holds::Strain;
+use crate::refusal::{tell_held, tell_refusal, tell_stranger};
+use broker_holds::{Origins, Strain, number_of};
 use broker_sockets::{Answer, PolledSockets, Readiness, Ready, Sockets, Watched};
 use cli_stops::answer_of;
 use mio::net::{TcpListener, TcpStream};
 use std::alloc::{AllocError, Global};
 use std::io::{self, Write};
-use std::net::SocketAddr;
+use std::net::{Ipv6Addr, SocketAddr};
 use std::rc::Rc;
 
-/// For so many milliseconds after it was told that clients are held back it isn't told again.
+/// For so many milliseconds after it was told that clients are held back, or that a link was closed, it isn't told again.
 const MINUTE: u64 = 60_000;
 
 /// An address at which the program was to wait, and what the system answered.
@@ -23,7 +23,7 @@ pub(crate) struct Refused {
 }
 
 /// The sockets of the system, which keep an address that it refuses with its answer, and write why nobody can be accepted: once, and again only after somebody was.
-/// And they write that clients are held back, once a minute at most.
+/// And they write that clients are held back, and that a link from elsewhere than a bridge of the table was closed, each once a minute at most.
 #[derive(Drop)]
 pub(crate) struct TellingSockets<'a, E> {
     sockets: PolledSockets<'a, HostRuntime>,
@@ -34,6 +34,10 @@ pub(crate) struct TellingSockets<'a, E> {
     strain: Rc<Strain>,
     /// From when on it is told again.
     held_again: u64,
+    /// How many links were closed when that was told last.
+    strangers: u64,
+    /// From when on it is told again.
+    stranger_again: u64,
     /// The last address that was refused.
     refused: &'a mut Option<Refused>,
 }
@@ -52,6 +56,8 @@ impl<'a, E> TellingSockets<'a, E> {
             told: false,
             strain,
             held_again: 0,
+            strangers: 0,
+            stranger_again: 0,
             refused,
         }
     }
@@ -78,6 +84,30 @@ impl<'a, E: Write> TellingSockets<'a, E> {
             self.held_again = strained.at.saturating_add(MINUTE);
             let _ = tell_held(&mut self.error);
         }
+    }
+}
+
+/// An IP address, as it is written; nothing where the system didn't tell it or there is no memory for it.
+fn text_of(alloc: Global, address: Option<u128>) -> Option<String> {
+    let address = Ipv6Addr::from_bits(address?).to_canonical();
+    format!(in alloc; "{address}").ok()
+}
+
+impl<'a, E: Write> TellingSockets<'a, E> {
+    /// Tells that a link was closed, where one was since that was told last, and not within a minute.
+    fn tell_stranger(&mut self, alloc: Global) {
+        let strangers = self.strain.refused();
+        if strangers == self.strangers || self.strain.now() < self.stranger_again {
+            return;
+        }
+        self.strangers = strangers;
+        self.stranger_again = self.strain.now().saturating_add(MINUTE);
+        let text = text_of(alloc, self.strain.stranger());
+        let address = match &text {
+            Some(text) => text.as_str(),
+            None => "an unknown address",
+        };
+        let _ = tell_stranger(&mut self.error, address);
     }
 }
 
@@ -143,6 +173,18 @@ impl<'a, E: Write> Readiness for TellingSockets<'a, E> {
 
     fn ready(&mut self, alloc: Global) -> Result<Ready, AllocError> {
         self.tell_strain();
+        self.tell_stranger(alloc);
         self.sockets.ready(alloc)
+    }
+}
+
+impl<'a, E: Write> Origins for TellingSockets<'a, E> {
+    ghost comes_from = { λ _ _. Unit {0} };
+
+    fn origin(&self, stream: &TcpStream) -> Option<u128> {
+        match stream.peer_addr() {
+            Ok(address) => Some(number_of(address.ip())),
+            Err(_) => None,
+        }
     }
 }

@@ -42,7 +42,7 @@ impl LeftOut {
     }
 }
 
-/// What users were not allowed since the node started. The clients that were not let in are told by their Reason Codes.
+/// What was not allowed since the node started. The clients that were not let in are told by their Reason Codes.
 #[derive(Clone, Copy, Debug, PartialEq, Eq)]
 pub struct NotAllowed {
     /// PUBLISH packets.
@@ -51,6 +51,8 @@ pub struct NotAllowed {
     pub filters: u64,
     /// Messages that were not sent, since their receiver may not read them; each of them ended its connection.
     pub messages: u64,
+    /// Links that others began, and that were closed since no bridge of the table of homes has their address.
+    pub links: u64,
 }
 
 /// What is told of a node.

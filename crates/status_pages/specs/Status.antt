@@ -74,13 +74,14 @@ with_left_out left_out text =
     ++ next_number (codes "tables_refused") left_out.tables_refused
     ++ codes "}"
 
--- what users were not allowed
+-- what was not allowed
 unfoldable pub with_counts_not_allowed : NotAllowed → List ℕ → List ℕ
 with_counts_not_allowed not_allowed text =
     text
     ++ number_member (codes ",\"not_allowed\":{") (codes "publishes") not_allowed.publishes
     ++ next_number (codes "filters") not_allowed.filters
     ++ next_number (codes "messages") not_allowed.messages
+    ++ next_number (codes "links") not_allowed.links
 
 unfoldable pub with_not_allowed : NotAllowed → List ℕ → List ℕ
 with_not_allowed not_allowed text = with_counts_not_allowed not_allowed text ++ codes "}"

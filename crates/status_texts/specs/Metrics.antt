@@ -90,13 +90,14 @@ with_links total text =
     (with_counter (codes "mqtt_cluster_frames_received_total") (codes "Frames from peers.") total.frames_received
     text)))
 
--- what users were not allowed
+-- what was not allowed
 unfoldable pub with_not_allowed : NotAllowed → List ℕ → List ℕ
 with_not_allowed not_allowed text =
-    with_counter (codes "mqtt_messages_withheld_total") (codes "Messages that their receiver may not read.") not_allowed.messages
+    with_counter (codes "mqtt_links_refused_total") (codes "Links from an address that no bridge of the table has.") not_allowed.links
+    (with_counter (codes "mqtt_messages_withheld_total") (codes "Messages that their receiver may not read.") not_allowed.messages
     (with_counter (codes "mqtt_filters_refused_total") (codes "Filters to which their client may not subscribe.") not_allowed.filters
     (with_counter (codes "mqtt_publishes_refused_total") (codes "PUBLISH packets that their client may not send.") not_allowed.publishes
-    text))
+    text)))
 
 unfoldable pub with_dropped : LeftOut → List ℕ → List ℕ
 with_dropped left_out text =

@@ -134,13 +134,14 @@ with_codes figures text =
     (text ++ codes "<h2>Refused and ended since the start</h2>\n<table>\n"))
     ++ codes "</table>\n"
 
--- what users were not allowed
+-- what was not allowed
 unfoldable pub with_not_allowed : NotAllowed → List ℕ → List ℕ
 with_not_allowed not_allowed text =
-    with_number (codes "Messages that their receiver may not read") not_allowed.messages
+    with_number (codes "Links from elsewhere than a bridge of the table") not_allowed.links
+    (with_number (codes "Messages that their receiver may not read") not_allowed.messages
     (with_number (codes "Filters of subscriptions") not_allowed.filters
     (with_number (codes "Publishes") not_allowed.publishes
-    (text ++ codes "<h2>Not allowed since the start</h2>\n<table>\n")))
+    (text ++ codes "<h2>Not allowed since the start</h2>\n<table>\n"))))
     ++ codes "</table>\n"
 
 unfoldable pub with_tail : List ℕ → List ℕ

@@ -257,7 +257,7 @@ fn push_links(text: &mut String, total: &Traffic) -> Result<(), AllocError>
     )
 }
 
-/// What users were not allowed since the node started.
+/// What was not allowed since the node started.
 #[tactic(auto, unfolding(crate::specs::Metrics::with_not_allowed))]
 fn push_not_allowed(text: &mut String, not_allowed: &NotAllowed) -> Result<(), AllocError>
     ensures { OnOk result (string_bytes text.new ≡ with_not_allowed not_allowed.now (string_bytes text.old)) }
@@ -279,6 +279,12 @@ fn push_not_allowed(text: &mut String, not_allowed: &NotAllowed) -> Result<(), A
         "mqtt_messages_withheld_total",
         "Messages that their receiver may not read.",
         not_allowed.messages,
+    )?;
+    push_counter(
+        text,
+        "mqtt_links_refused_total",
+        "Links from an address that no bridge of the table has.",
+        not_allowed.links,
     )
 }
 

@@ -292,7 +292,7 @@ fn push_codes(text: &mut String, figures: &Figures) -> Result<(), AllocError>
     text.push_str("</table>\n")
 }
 
-/// What users were not allowed.
+/// What was not allowed.
 #[tactic(auto, unfolding(crate::specs::Page::with_not_allowed))]
 fn push_not_allowed(text: &mut String, not_allowed: &NotAllowed) -> Result<(), AllocError>
     ensures { OnOk result (string_bytes text.new ≡ with_not_allowed not_allowed.now (string_bytes text.old)) }
@@ -304,6 +304,11 @@ fn push_not_allowed(text: &mut String, not_allowed: &NotAllowed) -> Result<(), A
         text,
         "Messages that their receiver may not read",
         not_allowed.messages,
+    )?;
+    push_number(
+        text,
+        "Links from elsewhere than a bridge of the table",
+        not_allowed.links,
     )?;
     text.push_str("</table>\n")
 }

@@ -37,10 +37,11 @@ fn told(rt: &impl Abort, alloc: Global, line: &str) -> String {
                     status_hosts,
                     listen,
                     bridge_listen,
+                    from_anywhere,
                 },
             ),
         ) => {
-            let waits = (status_hosts, listen, bridge_listen);
+            let waits = (status_hosts, listen, bridge_listen, from_anywhere);
             let options = (turns, most_clients, connect_within, mqtt3, log, status);
             let AskedLimits {
                 most_memory,
@@ -61,7 +62,7 @@ fn told(rt: &impl Abort, alloc: Global, line: &str) -> String {
             let limits = (most_memory, packets, longest_expiry, careful);
             if users != (None, None, false) {
                 format!(in alloc; "node {configuration} {node} {database} {options:?} {users:?}")
-            } else if waits != (None, None, None) {
+            } else if waits != (None, None, None, false) {
                 format!(in alloc; "node {configuration} {node} {database} {options:?} {waits:?}")
             } else if limits == (None, (None, None, None, None), None, false) {
                 format!(in alloc; "node {configuration} {node} {database} {options:?}")

@@ -225,7 +225,7 @@ fn what_misleads_is_told(rt: HostRuntime) {
         "<tr class=\"apart\"><th>Copies for a full queue</th><td>21</td></tr>",
         "<tr><th>Refused: Not authorized (0x87)</th><td>17</td></tr>",
         "<tr><th>Ended: Keep Alive timeout (0x8D)</th><td>18</td></tr>",
-        "<h2>Not allowed since the start</h2>\n<table>\n<tr><th>Publishes</th><td>51</td></tr>\n<tr><th>Filters of subscriptions</th><td>52</td></tr>\n<tr><th>Messages that their receiver may not read</th><td>53</td></tr>\n</table>\n",
+        "<h2>Not allowed since the start</h2>\n<table>\n<tr><th>Publishes</th><td>51</td></tr>\n<tr><th>Filters of subscriptions</th><td>52</td></tr>\n<tr><th>Messages that their receiver may not read</th><td>53</td></tr>\n<tr><th>Links from elsewhere than a bridge of the table</th><td>54</td></tr>\n</table>\n",
         "<tr><th>Topics that are held, with those that were cleared</th><td>15</td></tr>",
     ] {
         assert!(rt; contains(&page, part.as_bytes()));
@@ -249,6 +249,7 @@ fn what_misleads_is_told(rt: HostRuntime) {
         "\nmqtt_publishes_refused_total 51\n",
         "\nmqtt_filters_refused_total 52\n",
         "\nmqtt_messages_withheld_total 53\n",
+        "\nmqtt_links_refused_total 54\n",
         "\nmqtt_cluster_peer_heard{peer=\"n1\"} 1\n",
     ] {
         assert!(rt; contains(&metrics, part.as_bytes()));
@@ -263,7 +264,7 @@ fn what_misleads_is_told(rt: HostRuntime) {
         ",\"memory_bytes\":123456789,\"most_memory_bytes\":125000000,\"database_bytes\":null,\"database_log_bytes\":0,\"table_refusal\":\"line <4>\",";
     assert!(rt; contains(&json, part.as_bytes()));
     let part =
-        ",\"tables_refused\":27},\"not_allowed\":{\"publishes\":51,\"filters\":52,\"messages\":53},\"since_start\":{";
+        ",\"tables_refused\":27},\"not_allowed\":{\"publishes\":51,\"filters\":52,\"messages\":53,\"links\":54},\"since_start\":{";
     assert!(rt; contains(&json, part.as_bytes()));
 }
 

@@ -107,6 +107,7 @@ pub(crate) fn figures(rt: &impl Abort, alloc: Global, lacking: u64) -> Figures {
             publishes: 51,
             filters: 52,
             messages: 53,
+            links: 54,
         },
         total: traffic(100),
         recent: traffic(30),

@@ -17,6 +17,7 @@ returns c = (
   c.in_ok-text_of-2.ensures,
   c.in_ok-text_of-3.ensures,
   c.in_ok-text_of-4.ensures,
+  c.is_from_anywhere.ensures,
   c.in-Some-limits_of.ensures,
   c.in_ok-users_of.ensures,
 )
