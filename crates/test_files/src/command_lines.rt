@@ -162,15 +162,19 @@ fn reads_command_lines(rt: HostRuntime) {
         ),
         (
             "run c.toml n0 d.db --listen 0.0.0.0:1883 --bridge-listen=[::]:2883",
-            "node c.toml n0 d.db (None, None, None, false, false, None) (None, Some(\"0.0.0.0:1883\"), Some(\"[::]:2883\"))",
+            "node c.toml n0 d.db (None, None, None, false, false, None) (None, Some(\"0.0.0.0:1883\"), Some(\"[::]:2883\"), false)",
         ),
         (
             "serve c.toml n0 d.db --turns 1 --bridge-listen here",
-            "node c.toml n0 d.db (Some(1), None, None, false, false, None) (None, None, Some(\"here\"))",
+            "node c.toml n0 d.db (Some(1), None, None, false, false, None) (None, None, Some(\"here\"), false)",
         ),
         (
             "run c.toml n0 d.db --status here --status-host=n0.example,status.example",
-            "node c.toml n0 d.db (None, None, None, false, false, Some(\"here\")) (Some(\"n0.example,status.example\"), None, None)",
+            "node c.toml n0 d.db (None, None, None, false, false, Some(\"here\")) (Some(\"n0.example,status.example\"), None, None, false)",
+        ),
+        (
+            "run c.toml n0 d.db --bridge-from-anywhere",
+            "node c.toml n0 d.db (None, None, None, false, false, None) (None, None, None, true)",
         ),
         (
             "run c.toml n0 d.db --users u --permissions=p",

@@ -17,6 +17,7 @@ const MOST_BYTES: usize = 16_777_216;
 pub fn for_one_turn(status: Option<&str>) -> Service<'_> {
     Service {
         at: ListenAt::table(),
+        from_anywhere: false,
         bounds: BoundLimits::none(),
         limits: Limits::none(),
         mqtt3: false,
