@@ -1,5 +1,6 @@
 pub mod Aliasing
 pub mod Fronts
+pub mod Going
 pub mod Marking
 pub mod Merging
 pub mod Ordering

@@ -2,15 +2,20 @@
 
 ghost use Rattle.std.specs.Prelude.{◌≡◌, ◌≤◌, IfOk, drop, length, map};
 ghost use Rattle.std.specs.List.{list_all};
+ghost use Rattle.door_packets.specs.Going.{may_go};
 ghost use Rattle.door_packets.specs.Sending.{IsSpelled, is_readable, mended, mended_by, readable_by};
 
 use crate::access::{Access, Login};
 use crate::bytes::suback;
 use crate::codes::Awaited;
 use crate::front::front_packet;
+use mqtt_bounds::packets_of;
 use mqtt_fields::NoMemory;
 use mqtt_packets::{Packet, write_packet};
 use std::alloc::Global;
+
+/// The most bytes of a packet (MQTT 5.0, 2.1.4).
+const LONGEST: usize = 268_435_460;
 
 /// The bytes of a packet; none of one that has no spelling.
 #[tactic(auto, using(crate::proofs::Sent::is_spelled, crate::proofs::Sent::not_spelled))]
@@ -107,4 +112,20 @@ pub fn are_readable<A: Access>(
         }
     }
     Ok(true)
+}
+
+/// Whether bytes may be sent to this client: they are whole packets, each of which is so.
+pub fn may_go<A: Access>(
+    alloc: Global,
+    access: &A,
+    login: &Option<Login>,
+    bytes: &[u8],
+) -> Result<bool, NoMemory>
+    ensures { IfOk result (λ b. b ≡ may_go (A.rights access.now) login.now bytes.now) }
+{
+    let cut = packets_of(alloc, LONGEST, bytes)?;
+    if !cut.rest.is_empty() {
+        return Ok(false);
+    }
+    are_readable(alloc, access, login, &cut.packets)
 }
