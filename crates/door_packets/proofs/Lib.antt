@@ -6,3 +6,4 @@ pub mod Merging
 pub mod Ordering
 pub mod PacketFronts
 pub mod Sent
+pub mod Views

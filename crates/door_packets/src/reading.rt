@@ -1,6 +1,7 @@
 //! What is done for bytes that came on a connection.
 
 ghost use Rattle.std.specs.Prelude.{◌≡◌, IfOk, OnOk, map};
+ghost use Rattle.mqtt_bounds.specs.Pieces.{cut};
 ghost use Rattle.door_packets.specs.Marks.{is_marked};
 ghost use Rattle.door_packets.specs.Walk.{seen, walked};
 ghost use Rattle.door_packets.specs.Coming.{come, come_on, ended, finished, is_open, kept, limit, unread};
@@ -101,6 +102,20 @@ fn finish<A: Access>(
     Ok(walk)
 }
 
+/// What is done for these bytes, which are all that isn't a whole packet yet and what came.
+fn come_with<A: Access>(
+    alloc: Global,
+    access: &A,
+    marks: &Marks,
+    client: Client,
+    bytes: &[u8],
+) -> Result<Walk, NoMemory>
+    ensures { IfOk result (λ w. seen w ≡ finished (A.rights access.now) (is_marked marks.now) client (cut limit bytes.now)) }
+{
+    let cut = packets_of(alloc, LONGEST_PACKET, bytes)?;
+    finish(alloc, access, marks, client, &cut)
+}
+
 /// What is done for bytes that came, where they are looked at.
 fn come_on<A: Access>(
     alloc: Global,
@@ -111,6 +126,9 @@ fn come_on<A: Access>(
 ) -> Result<Walk, NoMemory>
     ensures { IfOk result (λ w. seen w ≡ come_on (A.rights access.now) (is_marked marks.now) client bytes.now) }
 {
+    if client.partial.as_slice().is_empty() {
+        return come_with(alloc, access, marks, client, bytes);
+    }
     let Client {
         partial,
         stage,
@@ -119,14 +137,13 @@ fn come_on<A: Access>(
     } = client;
     let mut stream = partial.into_vec();
     stream.extend_from_slice(bytes)?;
-    let cut = packets_of(alloc, LONGEST_PACKET, &stream)?;
     let client = Client {
         partial: Bytes::new(Vec::new(alloc)),
         stage,
         login,
         aliases,
     };
-    finish(alloc, access, marks, client, &cut)
+    come_with(alloc, access, marks, client, &stream)
 }
 
 /// What is done for bytes that came, and what is known of the client then.
