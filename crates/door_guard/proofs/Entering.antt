@@ -21,7 +21,7 @@ use Rattle.door_packets.specs.declared.access.Login.{Login}
 use Rattle.door_packets.specs.Packets.{code_by, connect_code, is_allowed, is_will_allowed, publish_step}
 use Rattle.door_packets.specs.Packets.{login_of as names_of}
 use Rattle.door_packets.specs.Walk.{Walked, begun, entered, entered_by, entered_with, fresh, is_leaving, left, next, next_by, published_by, stage_by, started, subscribed_by, told_first, took, took_at, walked, with_step}
-use Rattle.door_streams.specs.Coming.{come_at, come_on, ended, kept, limit, unread_at}
+use Rattle.door_packets.specs.Coming.{come_at, come_on, ended, kept, limit, unread_at}
 use Rattle.door_packets.specs.declared.client.Client.{Client}
 use Rattle.door_packets.specs.declared.client.Stage.{Stage}
 use Rattle.door_packets.specs.declared.client.Stage.TheVariants as stages
@@ -34,7 +34,7 @@ use Rattle.door_guard.specs.Stages.Happening.{Opens, Goes, Spaces, Comes, Does, 
 use Rattle.door_guard.specs.Stages.Notice.{Gone}
 use Rattle.door_guard.specs.Stages.Said.{Same}
 use Rattle.door_packets.specs.Sending.{mended}
-use Rattle.door_streams.specs.Going.{may_go}
+use Rattle.door_packets.specs.Going.{may_go}
 
 -- ---- behind the first packet
 

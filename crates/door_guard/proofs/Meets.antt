@@ -20,7 +20,7 @@ use Rattle.door_guard.specs.Stages.Notice.{Open, Gone, Space, Piece}
 use Rattle.door_guard.specs.Stages.Said.{Same}
 use Rattle.door_guard.specs.Telling.{AreDone, AreGiven, ArePaths, IsMet, IsPart, IsTold, Ledger, Stages, none}
 use Rattle.door_packets.specs.Walk.{Walked, fresh}
-use Rattle.door_streams.specs.Coming.{come}
+use Rattle.door_packets.specs.Coming.{come}
 use Rattle.door_packets.specs.declared.client.Client.{Client}
 use Rattle.door_packets.specs.declared.client.Stage.{Stage}
 use Rattle.door_packets.specs.declared.client.Stage.TheVariants as stages

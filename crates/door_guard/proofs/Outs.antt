@@ -12,7 +12,7 @@ use Rattle.door_guard.specs.Doing.{IsTurned}
 use Rattle.door_guard.specs.Giving.{IsEnded, awaited_for}
 use Rattle.door_packets.specs.Rights.{Rights}
 use Rattle.door_packets.specs.Sending.{Buffer, mended}
-use Rattle.door_streams.specs.Going.{may_go}
+use Rattle.door_packets.specs.Going.{may_go}
 use Rattle.door_guard.specs.Stages.{AreSaid, Doing, Effect, Held, Outgoing, Said, at, closed, effect, ends, gets, got, held_by, idle, on, quiet, refused_at, sends, staged, unsent, unsent_by}
 use Rattle.door_guard.specs.Stages.Happening.{Gets, Closes}
 use Rattle.door_guard.specs.Stages.Outgoing.{Bytes, End}

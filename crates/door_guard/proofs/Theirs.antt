@@ -27,14 +27,14 @@ use Rattle.door_packets.specs.Codes.{merged}
 use Rattle.door_packets.specs.Packets.{login_of as names_of}
 use Rattle.door_packets.specs.Rights.{Rights}
 use Rattle.door_packets.specs.Sending.{is_readable, may_receive, mended, readable_at}
-use Rattle.door_streams.specs.Going.{is_nothing, may_go}
+use Rattle.door_packets.specs.Going.{is_nothing, may_go}
 use Rattle.door_guard.specs.Stages.{Effect, Happening, Held, after, done, does_next, effect, ends, gone_by, got, held_after, quiet, says, sends, spaced_by}
 use Rattle.door_guard.specs.Stages.Happening.{Opens, Goes, Spaces, Comes, Does, Rests, Gets, Closes, Leaves}
 use Rattle.door_guard.specs.Stages.Notice.{Gone}
 use Rattle.door_guard.specs.Stages.Outgoing.{End as EndOf}
 use Rattle.door_guard.specs.Stages.Said.{Same}
 use Rattle.door_packets.specs.Walk.{Walked, begun, connect_step, entered, entered_by, entered_with, fresh, is_leaving, let_in, next, next_by, published_by, stage_by, started, subscribed_by, told_first, took, took_at, walked, with_step}
-use Rattle.door_streams.specs.Coming.{come_at, come_on, ended, kept, limit, unread_at}
+use Rattle.door_packets.specs.Coming.{come_at, come_on, ended, kept, limit, unread_at}
 use Rattle.door_packets.specs.declared.access.Login.{Login}
 use Rattle.door_packets.specs.declared.client.Client.{Client}
 use Rattle.door_packets.specs.declared.client.Stage.{Stage}

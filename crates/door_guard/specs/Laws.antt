@@ -26,7 +26,7 @@ use Rattle.door_guard.specs.Stages.Notice.{Piece}
 use Rattle.door_guard.specs.Stages.Outgoing.{Bytes, End}
 use Rattle.door_guard.specs.Stages.Said.{Same, Made}
 use Rattle.door_packets.specs.Walk.{fresh}
-use Rattle.door_streams.specs.Coming.{limit}
+use Rattle.door_packets.specs.Coming.{limit}
 use Rattle.door_packets.specs.declared.access.Admission.TheVariants.{Admitted}
 use Rattle.door_packets.specs.declared.access.Login.{Login}
 use Rattle.door_guard.specs.declared.door.Door.{Door}

@@ -11,9 +11,9 @@ use Rattle.door_guard.specs.Counts.{Refusal, Refused, refused_by, refused_on}
 use Rattle.door_guard.specs.Counts.Refusal.{Message}
 use Rattle.door_packets.specs.Rights.{Rights}
 use Rattle.door_packets.specs.Sending.{IsSpelled, mended}
-use Rattle.door_streams.specs.Going.{may_go}
+use Rattle.door_packets.specs.Going.{may_go}
 use Rattle.door_packets.specs.Walk.{Walked, fresh, is_leaving, left}
-use Rattle.door_streams.specs.Coming.{come}
+use Rattle.door_packets.specs.Coming.{come}
 use Rattle.door_packets.specs.declared.client.Client.{Client}
 use Rattle.door_packets.specs.declared.client.Stage.{Stage}
 use Rattle.door_packets.specs.declared.client.Stage.TheVariants as stages

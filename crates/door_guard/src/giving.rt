@@ -11,7 +11,7 @@ ghost use Rattle.door_guard.specs.Telling.{AreGiven, IsSent};
 use crate::known::Known;
 use broker_sockets::Output;
 use door_packets::{Access, Awaited, disconnect, mended};
-use door_streams::may_go;
+use door_packets::may_go;
 use mqtt_fields::NoMemory;
 use std::alloc::Global;
 

@@ -3,9 +3,10 @@ use Rattle.std.proofs.Common.{◌≡◌, ℕ, Bool, List, Option, Some, None, Re
 use Rattle.mqtt_packets.specs.Stream.{packet_at}
 use Rattle.mqtt_packets.specs.declared.fault.PacketFault.{PacketFault}
 use Rattle.mqtt_packets.specs.declared.packet.Packet.{Packet}
-use Rattle.door_packets.specs.Front.{IsFront, IsNoPacket}
+use Rattle.mqtt_packets.specs.declared.publish.Publish.{Publish}
+use Rattle.door_packets.specs.Front.{IsFront, IsNoPacket, IsPublish}
 use Rattle.door_packets.specs.Rights.{Rights}
-use Rattle.door_packets.specs.Walk.{Walked, entered, entered_by, next, next_by, told_first, with_step}
+use Rattle.door_packets.specs.Walk.{Walked, entered, entered_by, next, next_by, published, told_first, with_step}
 use Rattle.door_packets.specs.declared.step.Step.TheVariants.{Tells}
 
 -- ---- the first packet
@@ -34,3 +35,11 @@ next_case r w bs (Err f) not_one = refl
 
 pub next_none : (r : Rights) (w w' : Walked) (bs : List ℕ) → IsFront bs None → w' ≡ with_step w (Tells bs) → w' ≡ next r w bs (packet_at bs)
 next_none r w w' bs front e = e ∙ next_case r w bs (packet_at bs) front
+
+publish_case : (r : Rights) (w w' : Walked) (bs : List ℕ) (p : Publish) (x : Result (Option (Packet × List ℕ)) PacketFault) → IsPublish p x → w' ≡ published r w bs p → w' ≡ next r w bs x
+publish_case r w w' bs p (Ok (Some x)) is e = e ∙ sym (ap (next_by r w bs) is)
+publish_case r w w' bs p (Ok None) is e = absurd is
+publish_case r w w' bs p (Err f) is e = absurd is
+
+pub next_publish : (r : Rights) (w w' : Walked) (bs : List ℕ) (p : Publish) → IsPublish p (packet_at bs) → w' ≡ published r w bs p → w' ≡ next r w bs (packet_at bs)
+next_publish r w w' bs p is e = publish_case r w w' bs p (packet_at bs) is e

@@ -1,9 +1,12 @@
 pub mod Answers
 pub mod Codes
+pub mod Coming
 pub mod Front
+pub mod Going
 pub mod Laws
 pub mod Marks
 pub mod Packets
 pub mod Rights
 pub mod Sending
+pub mod StreamLaws
 pub mod Walk

@@ -4,9 +4,9 @@ ghost use Rattle.std.specs.Prelude.{◌≡◌, OnOk};
 ghost use Rattle.std.specs.FinSet as set;
 ghost use Rattle.door_packets.specs.Packets.{aliases_after, aliases_with};
 
+use crate::publish_view::PublishView;
 use mqtt_fields::NoMemory;
 use mqtt_fields::identifier::TOPIC_ALIAS;
-use mqtt_packets::Publish;
 use std::alloc::Global;
 use std::collections::BTreeSet;
 use std::marker::Model;
@@ -73,10 +73,10 @@ impl Aliases {
     }
 
     /// A PUBLISH that is allowed, or isn't, may give one to its topic.
-    pub(crate) fn note(&mut self, allowed: bool, publish: &Publish) -> Result<(), NoMemory>
+    pub(crate) fn note(&mut self, allowed: bool, publish: &PublishView<'_>) -> Result<(), NoMemory>
         ensures { OnOk result (self.new ≡ aliases_after allowed publish.now self.old) }
     {
-        if publish.topic.as_str().is_empty() {
+        if publish.topic.is_empty() {
             return Ok(());
         }
         match publish.properties.two(TOPIC_ALIAS) {

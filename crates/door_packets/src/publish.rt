@@ -4,11 +4,12 @@ ghost use Rattle.std.specs.Prelude.{◌≡◌, IfOk};
 ghost use Rattle.door_packets.specs.Packets.{is_allowed, publish_step, refusal};
 
 use crate::aliases::Aliases;
+use crate::publish_view::PublishView;
 use crate::step::Step;
 use crate::{Access, Login, ack};
 use mqtt_fields::identifier::TOPIC_ALIAS;
 use mqtt_fields::{NoMemory, Qos};
-use mqtt_packets::{Bytes, Publish};
+use mqtt_packets::Bytes;
 use std::alloc::Global;
 
 /// The first byte of PUBACK.
@@ -22,12 +23,12 @@ pub(crate) fn is_allowed<A: Access>(
     access: &A,
     login: &Login,
     aliases: &Aliases,
-    publish: &Publish,
+    publish: &PublishView<'_>,
 ) -> bool
     ensures { result ≡ is_allowed (A.rights access.now) login.now aliases.now publish.now }
 {
-    if !publish.topic.as_str().is_empty() {
-        return access.may_write(login, publish.topic.as_str());
+    if !publish.topic.is_empty() {
+        return access.may_write(login, publish.topic);
     }
     match publish.properties.two(TOPIC_ALIAS) {
         None => true,
@@ -37,7 +38,7 @@ pub(crate) fn is_allowed<A: Access>(
 
 /// What is done for a PUBLISH whose topic may not be written. One at QoS 2 that comes again may have an exchange that is open in the handler inside, so
 /// it ends the connection.
-fn refusal(alloc: Global, publish: &Publish) -> Result<Step, NoMemory>
+fn refusal(alloc: Global, publish: &PublishView<'_>) -> Result<Step, NoMemory>
     ensures { IfOk result (λ step. step ≡ refusal publish.now) }
 {
     match publish.qos {
@@ -59,7 +60,7 @@ pub(crate) fn publish_step(
     alloc: Global,
     allowed: bool,
     bytes: &[u8],
-    publish: &Publish,
+    publish: &PublishView<'_>,
 ) -> Result<Step, NoMemory>
     ensures { IfOk result (λ step. step ≡ publish_step allowed bytes.now publish.now) }
 {

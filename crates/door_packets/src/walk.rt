@@ -11,6 +11,7 @@ use crate::client::{Client, Stage};
 use crate::entry::{connect_code, login_of};
 use crate::marks::Marks;
 use crate::publish::{is_allowed, publish_step};
+use crate::publish_view::{PublishView, publish_in};
 use crate::step::Step;
 use crate::subscribe::subscribe_step;
 use crate::{Access, Login, front_packet};
@@ -190,7 +191,7 @@ impl Walk {
         alloc: Global,
         access: &A,
         bytes: &[u8],
-        publish: &Publish,
+        publish: &PublishView<'_>,
     ) -> Result<(), NoMemory>
         ensures { OnOk result (seen self.new ≡ published (A.rights access.now) (seen self.old) bytes.now publish.now) }
     {
@@ -202,6 +203,37 @@ impl Walk {
         self.client.aliases.note(allowed, publish)?;
         self.client.stage = stage_by(&step, self.client.stage);
         self.push(step)
+    }
+
+    /// Takes a PUBLISH that was read, whose bytes these are.
+    fn publish_read<A: Access>(
+        &mut self,
+        alloc: Global,
+        access: &A,
+        bytes: &[u8],
+        publish: Publish,
+    ) -> Result<(), NoMemory>
+        ensures { OnOk result (seen self.new ≡ published (A.rights access.now) (seen self.old) bytes.now publish) }
+    {
+        let Publish {
+            dup,
+            qos,
+            retain,
+            topic,
+            identifier,
+            properties,
+            payload,
+        } = publish;
+        let view = PublishView {
+            dup,
+            qos,
+            retain,
+            topic: topic.as_str(),
+            identifier,
+            properties,
+            payload: payload.as_slice(),
+        };
+        self.publish(alloc, access, bytes, &view)
     }
 
     /// Takes a SUBSCRIBE, whose bytes these are.
@@ -232,14 +264,14 @@ impl Walk {
         ensures { OnOk result (seen self.new ≡ next_by (A.rights access.now) (seen self.old) bytes.now packet) }
     {
         match packet {
-            Packet::Publish(publish) => self.publish(alloc, access, bytes, &publish),
+            Packet::Publish(publish) => self.publish_read(alloc, access, bytes, publish),
             Packet::Subscribe(subscribe) => self.subscribe(alloc, access, bytes, subscribe),
             _ => self.push(Step::Tells(Bytes::from_slice(alloc, bytes)?)),
         }
     }
 
     /// Takes a packet of a client that was let in. One that can't be read is told as it came.
-    #[tactic(auto, using(crate::proofs::PacketFronts::next_some, crate::proofs::PacketFronts::next_none))]
+    #[tactic(auto, using(crate::proofs::PacketFronts::next_publish, crate::proofs::PacketFronts::next_some, crate::proofs::PacketFronts::next_none))]
     fn take_next<A: Access>(
         &mut self,
         alloc: Global,
@@ -248,6 +280,9 @@ impl Walk {
     ) -> Result<(), NoMemory>
         ensures { OnOk result (seen self.new ≡ next (A.rights access.now) (seen self.old) bytes.now (packet_at bytes.now)) }
     {
+        if let Some(view) = publish_in(alloc, bytes) {
+            return self.publish(alloc, access, bytes, &view);
+        }
         match front_packet(alloc, bytes)? {
             Some((packet, _)) => self.next_by(alloc, access, bytes, packet),
             None => self.push(Step::Tells(Bytes::from_slice(alloc, bytes)?)),

@@ -1,6 +1,12 @@
+pub mod Asking
 pub mod Bounds
 pub mod Calls
+pub mod Cut
+pub mod Fives
 pub mod Guards
 pub mod Levels
 pub mod Limits
+pub mod Pieces
 pub mod Refusing
+pub mod Telling
+pub mod Turns

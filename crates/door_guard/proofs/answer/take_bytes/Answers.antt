@@ -1,6 +1,6 @@
 use Rattle.std.proofs.Common.{ℕ, List, ap, ◌∙◌}
 use Rattle.door_packets.specs.Marks.{is_marked}
-use Rattle.door_streams.specs.Coming.{come}
+use Rattle.door_packets.specs.Coming.{come}
 use Rattle.door_guard.proofs.Meets.{came_none, came_some}
 use Rattle.door_guard.proofs.Told.{if_ok}
 use Rattle.door_guard.proofs.answer.take_bytes.Goals as goal

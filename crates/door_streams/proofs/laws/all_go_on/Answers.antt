@@ -1,5 +1,0 @@
-use Rattle.door_streams.proofs.Going.{all_go_on}
-use Rattle.door_streams.proofs.laws.all_go_on.Goals as goal
-
-pub returns : goal.returns
-returns c = all_go_on

@@ -1,5 +1,0 @@
-use Rattle.law_mqtt3.proofs.Ordered.{held_back_in_order, room_is_used}
-use Rattle.law_mqtt3.proofs.laws.held_back_comes_in_order.Goals as goal
-
-pub returns : goal.returns
-returns c = record { order = held_back_in_order; room = room_is_used }

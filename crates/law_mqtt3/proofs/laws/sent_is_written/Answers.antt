@@ -1,5 +1,0 @@
-use Rattle.law_mqtt3.proofs.Tells.{sent_is_written}
-use Rattle.law_mqtt3.proofs.laws.sent_is_written.Goals as goal
-
-pub returns : goal.returns
-returns c = sent_is_written

@@ -1,6 +1,0 @@
-pub mod Cut
-pub mod Turns
-pub mod Pieces
-pub mod Asking
-pub mod Telling
-pub mod Fives
