@@ -19,4 +19,6 @@ mod ready;
 #[cfg(test)]
 mod real;
 #[cfg(test)]
+mod strangers;
+#[cfg(test)]
 mod talker;

@@ -1,6 +1,7 @@
 //! Streams in pairs, and which of them may have something.
 
 use crate::end::End;
+use broker_holds::Origins;
 use broker_sockets::{Answer, Readiness, Ready, Sockets, Watched};
 use std::alloc::{AllocError, Global};
 use std::io::{self, ErrorKind};
@@ -49,6 +50,8 @@ pub struct FakeSockets {
     pub waits: u32,
     /// Which of several hubs asks now; each is told of its own sockets.
     pub hub: u8,
+    /// From where all streams come, as far as is told.
+    pub origin: Option<u128>,
     ports: Vec<u8>,
     ends: Vec<End>,
     waiting: Vec<(u16, usize)>,
@@ -70,6 +73,7 @@ impl Drop for FakeSockets {
             connects: _,
             waits: _,
             hub: _,
+            origin: _,
             ports: _ports,
             ends: _ends,
             waiting: _waiting,
@@ -109,6 +113,7 @@ impl FakeSockets {
             connects: 0,
             waits: 0,
             hub: 0,
+            origin: None,
             ports: Vec::new(alloc),
             ends: Vec::new(alloc),
             waiting: Vec::new(alloc),
@@ -374,5 +379,13 @@ impl Readiness for FakeSockets {
             }
         }
         Ok(ready)
+    }
+}
+
+impl Origins for FakeSockets {
+    ghost comes_from = { λ _ _. Unit {0} };
+
+    fn origin(&self, _stream: &usize) -> Option<u128> {
+        self.origin
     }
 }
