@@ -134,15 +134,17 @@ with_codes figures text =
     (text ++ codes "<h2>Refused and ended since the start</h2>\n<table>\n"))
     ++ codes "</table>\n"
 
--- what was not allowed
+-- what users were not allowed
 unfoldable pub with_not_allowed : NotAllowed → List ℕ → List ℕ
 with_not_allowed not_allowed text =
-    with_number (codes "Links from elsewhere than a bridge of the table") not_allowed.links
-    (with_number (codes "Messages that their receiver may not read") not_allowed.messages
+    with_number (codes "Messages that their receiver may not read") not_allowed.messages
     (with_number (codes "Filters of subscriptions") not_allowed.filters
     (with_number (codes "Publishes") not_allowed.publishes
-    (text ++ codes "<h2>Not allowed since the start</h2>\n<table>\n"))))
-    ++ codes "</table>\n"
+    (text ++ codes "<h2>Not allowed since the start</h2>\n<table>\n")))
+
+-- and how many links
+unfoldable pub with_links_refused : ℕ → List ℕ → List ℕ
+with_links_refused links text = with_number (codes "Links from elsewhere than a bridge of the table") links text ++ codes "</table>\n"
 
 unfoldable pub with_tail : List ℕ → List ℕ
 with_tail text = text ++ codes "</main>\n<script>" ++ SCRIPT.now ++ codes "</script>\n</body>\n</html>\n"
@@ -155,7 +157,7 @@ peers_head = codes "<h2>Peers</h2>\n<table>\n<tr><th>Name</th><th>Bridge</th><th
 -- peers, what went through, who was refused, what was not allowed, and what was left out
 abbrev pub page_text : Figures → List ℕ
 page_text figures =
-    with_tail (with_frames_dropped figures.left_out (with_dropped figures.left_out (with_not_allowed figures.not_allowed (with_codes figures (with_links figures.recent (with_clients figures.recent
+    with_tail (with_frames_dropped figures.left_out (with_dropped figures.left_out (with_links_refused figures.not_allowed.links (with_not_allowed figures.not_allowed (with_codes figures (with_links figures.recent (with_clients figures.recent
     (with_peers figures.peers.items
     (with_turns figures.longest_turn (with_files figures.usage (with_memory figures.usage (with_held figures (with_node figures
     (with_head (escaped figures.name.bytes.items) []
@@ -164,4 +166,4 @@ page_text figures =
     ++ untaken_text figures.refusal
     ++ short_text (is_short figures.usage))))))
     ++ peers_head)
-    ++ codes "</table>\n")))))))
+    ++ codes "</table>\n"))))))))

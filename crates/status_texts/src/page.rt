@@ -1,7 +1,7 @@
 //! The page of a node: one document that asks for nothing but itself, and is read without its script.
 
 ghost use Rattle.std.specs.Prelude.{◌≡◌, ◌++◌, string_bytes, IfOk, OnOk};
-ghost use Rattle.status_texts.specs.Page.{apart_words, loss_text, page_text, peers_head, sentence, short_text, untaken_text, untaken_words, verdict_class, verdict_text, with_clients, with_codes, with_dropped, with_files, with_frames_dropped, with_head, with_held, with_links, with_memory, with_node, with_not_allowed, with_tail, with_top, with_turns};
+ghost use Rattle.status_texts.specs.Page.{apart_words, loss_text, page_text, peers_head, sentence, short_text, untaken_text, untaken_words, verdict_class, verdict_text, with_clients, with_codes, with_dropped, with_files, with_frames_dropped, with_head, with_held, with_links, with_links_refused, with_memory, with_node, with_not_allowed, with_tail, with_top, with_turns};
 
 use crate::codes::push_code_rows;
 use crate::escape::escaped;
@@ -292,7 +292,7 @@ fn push_codes(text: &mut String, figures: &Figures) -> Result<(), AllocError>
     text.push_str("</table>\n")
 }
 
-/// What was not allowed.
+/// What users were not allowed.
 #[tactic(auto, unfolding(crate::specs::Page::with_not_allowed))]
 fn push_not_allowed(text: &mut String, not_allowed: &NotAllowed) -> Result<(), AllocError>
     ensures { OnOk result (string_bytes text.new ≡ with_not_allowed not_allowed.now (string_bytes text.old)) }
@@ -304,11 +304,18 @@ fn push_not_allowed(text: &mut String, not_allowed: &NotAllowed) -> Result<(), A
         text,
         "Messages that their receiver may not read",
         not_allowed.messages,
-    )?;
+    )
+}
+
+/// And how many links.
+#[tactic(auto, unfolding(crate::specs::Page::with_links_refused))]
+fn push_links_refused(text: &mut String, links: u64) -> Result<(), AllocError>
+    ensures { OnOk result (string_bytes text.new ≡ with_links_refused links (string_bytes text.old)) }
+{
     push_number(
         text,
         "Links from elsewhere than a bridge of the table",
-        not_allowed.links,
+        links,
     )?;
     text.push_str("</table>\n")
 }
@@ -352,6 +359,7 @@ pub fn page_of(alloc: Global, figures: &Figures) -> Result<String, AllocError>
     push_links(&mut text, &figures.recent)?;
     push_codes(&mut text, figures)?;
     push_not_allowed(&mut text, &figures.not_allowed)?;
+    push_links_refused(&mut text, figures.not_allowed.links)?;
     push_dropped(&mut text, &figures.left_out)?;
     push_frames_dropped(&mut text, &figures.left_out)?;
     push_tail(&mut text)?;
