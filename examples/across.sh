@@ -7,13 +7,23 @@
 #   examples/across.sh              runs the program that ./build has built
 #   examples/across.sh PROGRAM..    runs these words in its place
 #
-# It needs a C compiler (CC names another one than cc). The ports 1883 to 1885 and 2883 to 2885 must be free.
+# DELAY names milliseconds that each byte between two nodes takes (examples/delay.py), none where it isn't there; SECONDS_EACH how long each load goes on (3).
+#
+# It needs a C compiler (CC names another one than cc). The ports 1883 to 1885, 2883 to 2885 and with DELAY 3883 to 3885 must be free.
 set -eu
 
 source "$(dirname "${BASH_SOURCE[0]}")/nodes.sh"
 run_by "$@"
 need "${CC:-cc}"
 seconds=${SECONDS_EACH:-3}
+delay=${DELAY:-0}
+bridges=2883
+if [ "$delay" -gt 0 ]; then
+    need python3
+    bridges=3883
+    python3 "$top/examples/delay.py" "$delay" 3883 2883 3884 2884 3885 2885 > "$work/delay" 2> "$work/delay.err" &
+    await_line ready "$work/delay" $!
+fi
 "${CC:-cc}" -O2 -pthread -o "$work/load" "$top/examples/load.c"
 
 # A table of three nodes; a client whose identifier begins with `publisher` has its home at n0, and one that begins with `subscriber` at the node $1.
@@ -21,7 +31,7 @@ table() {
     local number
     echo 'version = 1'
     for number in 0 1 2; do
-        printf '\n[[node]]\nname = "n%s"\naddress = "%s:%s"\nbridge = "%s:%s"\n' "$number" "$host" $((1883 + number)) "$host" $((2883 + number))
+        printf '\n[[node]]\nname = "n%s"\naddress = "%s:%s"\nbridge = "%s:%s"\n' "$number" "$host" $((1883 + number)) "$host" $((bridges + number))
     done
     printf '\n[[home]]\nprefix = "publisher"\nnode = "n0"\n\n[[home]]\nprefix = "subscriber"\nnode = "%s"\n' "$1"
 }
@@ -44,6 +54,7 @@ run_with() {
     local number
     table "$2" > "$work/table.toml"
     for number in 0 1 2; do
+        options=(--bridge-listen "$host:$((2883 + number))")
         start_node "n$number" "$work/table.toml" "$work/$2-n$number.db"
     done
     sleep 2
