@@ -14,7 +14,7 @@ MOST = 4194304
 
 
 async def carry(reader, writer, delay):
-    """Passes on what one side sends, and closes the other one after it ends."""
+    """Passes on what one side sends, and then its end."""
     loop, waiting, there = asyncio.get_running_loop(), collections.deque(), asyncio.Event()
     room, held = asyncio.Event(), 0
     room.set()
@@ -46,9 +46,9 @@ async def carry(reader, writer, delay):
         waiting.append((loop.time() + delay, b""))
         there.set()
         await passing
+        writer.write_eof()
     except OSError:
         passing.cancel()
-    writer.close()
 
 
 async def join(reader, writer, to, delay):
@@ -58,6 +58,8 @@ async def join(reader, writer, to, delay):
         writer.close()
         return
     await asyncio.gather(carry(reader, far_writer, delay), carry(far_reader, writer, delay), return_exceptions=True)
+    for it in (writer, far_writer):
+        it.close()
 
 
 async def main(words):
