@@ -74,17 +74,16 @@ with_left_out left_out text =
     ++ next_number (codes "tables_refused") left_out.tables_refused
     ++ codes "}"
 
--- what was not allowed
+-- what users were not allowed
 unfoldable pub with_counts_not_allowed : NotAllowed → List ℕ → List ℕ
 with_counts_not_allowed not_allowed text =
     text
     ++ number_member (codes ",\"not_allowed\":{") (codes "publishes") not_allowed.publishes
     ++ next_number (codes "filters") not_allowed.filters
     ++ next_number (codes "messages") not_allowed.messages
-    ++ next_number (codes "links") not_allowed.links
 
 unfoldable pub with_not_allowed : NotAllowed → List ℕ → List ℕ
-with_not_allowed not_allowed text = with_counts_not_allowed not_allowed text ++ codes "}"
+with_not_allowed not_allowed text = with_counts_not_allowed not_allowed text ++ next_number (codes "links") not_allowed.links ++ codes "}"
 
 unfoldable pub with_clients : List ℕ → Traffic → List ℕ → List ℕ
 with_clients before traffic text =

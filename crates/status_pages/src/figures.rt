@@ -82,7 +82,7 @@ fn push_left_out(text: &mut String, left_out: &LeftOut) -> Result<(), AllocError
     text.push_str("}")
 }
 
-/// How many times something was not allowed, behind what opens the object.
+/// How many times users were not allowed something, behind what opens the object.
 #[tactic(auto, unfolding(crate::specs::Status::with_counts_not_allowed))]
 fn push_counts_not_allowed(text: &mut String, not_allowed: &NotAllowed) -> Result<(), AllocError>
     ensures { OnOk result (string_bytes text.new ≡ with_counts_not_allowed not_allowed.now (string_bytes text.old)) }
@@ -94,8 +94,7 @@ fn push_counts_not_allowed(text: &mut String, not_allowed: &NotAllowed) -> Resul
         not_allowed.publishes,
     )?;
     push_number(text, ",", "filters", not_allowed.filters)?;
-    push_number(text, ",", "messages", not_allowed.messages)?;
-    push_number(text, ",", "links", not_allowed.links)
+    push_number(text, ",", "messages", not_allowed.messages)
 }
 
 /// What was not allowed.
@@ -104,6 +103,7 @@ fn push_not_allowed(text: &mut String, not_allowed: &NotAllowed) -> Result<(), A
     ensures { OnOk result (string_bytes text.new ≡ with_not_allowed not_allowed.now (string_bytes text.old)) }
 {
     push_counts_not_allowed(text, not_allowed)?;
+    push_number(text, ",", "links", not_allowed.links)?;
     text.push_str("}")
 }
 
