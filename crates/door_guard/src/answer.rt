@@ -12,8 +12,7 @@ use crate::giving::give;
 use crate::known::{Known, forget};
 use crate::telling::{do_steps, leave_all, tell};
 use broker_sockets::{BridgeHandler, Event, EventKind, Given, Handler, Output, PeerEvent};
-use door_packets::{Access, Client, Stage, Walk};
-use door_packets::come;
+use door_packets::{Access, Client, Stage, Walk, come};
 use std::alloc::Global;
 
 /// Tells the handler inside of an event that is on no connection, or on one of which it knows.

@@ -10,8 +10,7 @@ ghost use Rattle.door_guard.specs.Telling.{AreGiven, IsSent};
 
 use crate::known::Known;
 use broker_sockets::Output;
-use door_packets::{Access, Awaited, disconnect, mended};
-use door_packets::may_go;
+use door_packets::{Access, Awaited, disconnect, may_go, mended};
 use mqtt_fields::NoMemory;
 use std::alloc::Global;
 

@@ -1,5 +1,6 @@
 -- A PUBLISH that is read where it lies is the one in front.
-use Rattle.std.proofs.Common.{◌≡◌, ◌≤◌, ℕ, arith, get_or, Bool, true, false, cond, ltb, List, [], ◌∷◌, length, take, drop, Some, None, Option, Result, Ok, Err, refl, sym, ap, subst, ◌∙◌}
+use Rattle.std.proofs.Common.{◌≡◌, ◌≤◌, ◌-◌, ℕ, arith, get_or, Bool, true, false, cond, ltb, List, [], ◌∷◌, length, take, drop, Some, None, Option, Result, Ok, Err, refl, sym, ap, subst, ◌∙◌}
+use Rattle.std.proofs.lemmas.List.{length-drop, take_all}
 use Rattle.std.specs.Prelude.{not}
 use Rattle.std.specs.Int.{w16}
 use Rattle.mqtt_fields.specs.Reading.{◌>>=◌}
@@ -64,7 +65,13 @@ publish_there b bs r body behind n p head at_length at_run is =
     let inside : (publish (flags_of p)).of (take n r) ≡ Ok p = ap (publish (flags_of p)).of same ∙ is in
     rw head (rw at_length (rw g.0 (rw inside refl)))
 
-pub publish_here : (bs r body behind : List ℕ) (n : ℕ) (p : Publish) → 1 ≤ length bs → IsPublishHead (get_or bs 0 0) p.dup p.qos p.retain → vbi.at (drop 1 bs) ≡ Ok (n, r)
+-- all but the first
+tail_all : (bs : List ℕ) → take (length bs - 1) (drop 1 bs) ≡ drop 1 bs
+tail_all bs = take_all (length bs - 1) (drop 1 bs) (omega (arith, length-drop 1 bs))
+
+pub publish_here : (bs r body behind : List ℕ) (n : ℕ) (p : Publish) → 1 ≤ length bs → IsPublishHead (get_or bs 0 0) p.dup p.qos p.retain → vbi.at (take (length bs - 1) (drop 1 bs)) ≡ Ok (n, r)
     → (run_of n).at r ≡ Ok (body, behind) → (publish (flags_of p)).of body ≡ Ok p → IsPublish p (packet_at bs)
 publish_here [] r body behind n p some head at_length at_run is = absurd (omega arith)
-publish_here (b ∷ bs) r body behind n p some head at_length at_run is = publish_there b bs r body behind n p head at_length at_run is
+publish_here (b ∷ bs) r body behind n p some head at_length at_run is =
+    let there : vbi.at bs ≡ Ok (n, r) = sym (ap (λ (x : List ℕ). vbi.at x) (tail_all (b ∷ bs))) ∙ at_length in
+    publish_there b bs r body behind n p head there at_run is

@@ -109,7 +109,7 @@ fn is_readable<A: Access>(
 }
 
 /// Whether bytes may be sent to this client: they are whole packets, each of which is so.
-#[tactic(auto, using(crate::proofs::Sent::goes_all, crate::proofs::Sent::goes_not, crate::proofs::Sent::goes_whole, crate::proofs::Sent::ends_waiting, crate::proofs::Sent::ends_long, crate::proofs::Sent::ends_broken))]
+#[tactic(auto, using(crate::proofs::Sent::goes_not, crate::proofs::Sent::goes_whole, crate::proofs::Sent::ends_waiting, crate::proofs::Sent::ends_long, crate::proofs::Sent::ends_broken))]
 pub fn may_go<A: Access>(
     alloc: Global,
     access: &A,
