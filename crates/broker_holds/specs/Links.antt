@@ -34,3 +34,8 @@ module _ {S T : Type 0} where
     pub by : IsAdmittedBy comes_from n t name admitted
     pub watch : ((admitted ≡ true) × watches n.sockets t name watched n'.sockets) ⊎ ((admitted ≡ false) × (watched ≡ false) × (n'.sockets ≡ n.sockets))
     pub kept : n'.bridges ≡ n.bridges
+
+  -- a link of another node that is watched came from an address that is taken
+  abbrev pub StrangersAreNotWatched : (T → Option ℕ → Type 0) → (GuardedLinks S → T → Watched → Bool → GuardedLinks S → Type 0) → Type 0
+  StrangersAreNotWatched comes_from watches =
+      (n n' : GuardedLinks S) (t : T) (key : ℕ) → watches n t (Link key) true n' → (origin : Option ℕ) × comes_from t origin × (takes n.bridges origin ≡ true)

@@ -2,7 +2,7 @@
 
 ghost use Rattle.std.specs.Prelude.{◌≡◌};
 ghost use Rattle.std.specs.List.{list_any};
-ghost use Rattle.broker_holds.specs.Links.{IsAdmittedBy, is_same, takes};
+ghost use Rattle.broker_holds.specs.Links.{IsAdmittedBy, StrangersAreNotWatched, is_same, takes};
 
 use crate::strain::Strain;
 use broker_sockets::{Answer, Readiness, Ready, Sockets, Watched};
@@ -162,3 +162,8 @@ impl<S: Origins> Readiness for GuardedLinks<S> {
         self.sockets.ready(alloc)
     }
 }
+
+/// A link of another node that is watched came from one of the addresses, or from anywhere where none are given.
+pub fn strangers_are_not_watched<S: Origins>()
+    ensures { StrangersAreNotWatched S.comes_from ⟦<GuardedLinks<S> as Readiness>⟧.watches }
+{}
