@@ -1,6 +1,7 @@
 pub mod Causes
 pub mod Cleared
 pub mod Copies
+pub mod Disconnects
 pub mod Ends
 pub mod Equals
 pub mod Expiring

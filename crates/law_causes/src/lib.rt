@@ -7,6 +7,7 @@
 pub mod causes;
 pub mod cleared;
 pub mod copies;
+pub mod disconnects;
 pub mod gots;
 pub mod identifiers;
 pub mod operations;

@@ -1,6 +1,6 @@
 //! Frames from another node: in part, with a byte changed, and with a wrong sender or receiver.
 
-use crate::changes::changed;
+use crate::changes::{bytes_of, changed};
 use bridge_frames::{BridgeFrame, FrameBody};
 use node_rows::{are_dots_among, is_state_among};
 use std::alloc::Global;
@@ -70,15 +70,6 @@ const FRAMES: [(&str, &str); 13] = [
 const SENDER: usize = 6;
 
 const RECEIVER: usize = 8;
-
-fn bytes_of(rt: &impl Abort, alloc: Global, spelled: &str) -> Vec<u8> {
-    let mut bytes = Vec::new(alloc);
-    for field in spelled.split(' ') {
-        let field = hex::decode(alloc, field).expect(rt, "hexadecimal");
-        bytes.extend_from_slice(&field).expect(rt, "memory");
-    }
-    bytes
-}
 
 /// What is told of a frame: its sender, its receiver, how many frames answer it, and whether it names none but the nodes of a cluster of two.
 #[derive(Clone, Copy)]

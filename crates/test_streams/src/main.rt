@@ -1,4 +1,4 @@
-//! Hostile bytes at a node: streams of clients, which it answers by its table, and frames from another node; beside each of them
+//! Hostile bytes at a node: streams of clients, which it answers by its table and by the standard, and frames from another node; beside each of them
 //! a witness is served.
 #![tactic(auto)]
 
@@ -10,6 +10,8 @@ mod changes;
 mod frames;
 #[cfg(test)]
 mod heard;
+#[cfg(test)]
+mod packets;
 #[cfg(test)]
 mod streams;
 

@@ -2,13 +2,13 @@
 
 use crate::failure::Failure;
 use broker_node::Output;
-use mqtt_packets::{Packet, read_packet};
+use mqtt_packets::{Packet, Reasons, read_packet};
 use std::alloc::Global;
 
 /// One thing that a node gives out.
 #[derive(Clone, Copy, Debug, PartialEq, Eq)]
 pub enum Said {
-    /// A packet of this type (MQTT 5.0, 2.1.2). Its Reason Code, where it is a CONNACK or a DISCONNECT; else 0.
+    /// A packet of this type (MQTT 5.0, 2.1.2). Its Reason Code, or the first one of a SUBACK or an UNSUBACK; 0 where it has none.
     Packet { kind: u8, code: u8 },
     /// The end of the connection.
     Close,
@@ -23,9 +23,19 @@ pub struct Told {
     pub said: Said,
 }
 
+fn first_of(answer: &Reasons) -> u8 {
+    answer.reasons.as_slice().first().copied().unwrap_or(0)
+}
+
 fn code_of(packet: &Packet) -> u8 {
     match packet {
         Packet::Connack(connack) => connack.reason,
+        Packet::Puback(ack) => ack.reason,
+        Packet::Pubrec(ack) => ack.reason,
+        Packet::Pubrel(ack) => ack.reason,
+        Packet::Pubcomp(ack) => ack.reason,
+        Packet::Suback(answer) => first_of(answer),
+        Packet::Unsuback(answer) => first_of(answer),
         Packet::Disconnect(ended) => ended.reason,
         _ => 0,
     }
