@@ -94,18 +94,18 @@ fn a_node_tells_how_it_is(rt: HostRuntime) {
     let gate = b"GET /caught-up HTTP/1.1\r\nhost: n1\r\n\r\n".as_slice();
     let cluster = b"GET /cluster HTTP/1.1\r\nhost: n1\r\n\r\n".as_slice();
     for (nodes, request, part, end) in [
-        // the other node says nothing, so that it isn't known to have any of the two operations
+        // the other node says nothing, so that no link to it is up, and it isn't known to have any of the two operations
         (
             2,
             all,
-            b"\"peers\":[{\"name\":\"n0\",\"number\":0,\"address\":\"127.0.0.1:1883\",\"bridge\":\"127.0.0.1:2883\",\"linked\":true,".as_slice(),
-            b",\"away_milliseconds\":0,\"heard\":false,\"equal\":false,\"lacking\":2,\"missing\":0,\"waiting\":0,\"lane_full\":false}]}\n".as_slice(),
+            b"\"peers\":[{\"name\":\"n0\",\"number\":0,\"address\":\"127.0.0.1:1883\",\"bridge\":\"127.0.0.1:2883\",\"linked\":false,".as_slice(),
+            b",\"heard\":false,\"equal\":false,\"lacking\":2,\"missing\":0,\"waiting\":0,\"lane_full\":false}]}\n".as_slice(),
         ),
         (
             2,
             gate,
             b"HTTP/1.1 503 ".as_slice(),
-            b"\r\n\r\nnot caught up\nn0: linked, not heard since the start\n".as_slice(),
+            b", not heard since the start\n".as_slice(),
         ),
         (
             2,
