@@ -10,22 +10,26 @@ use Rattle.door_log.specs.Views.{inside_of as logged_in}
 use Rattle.node_keeper.specs.BatchViews.{node_in}
 use Rattle.node_figures.specs.Figures.{AreFigures}
 use Rattle.node_server.specs.Stack.{BoundedNode, GuardedNode, LimitedNode, LoggedNode, TabledNode, TalliedNode}
-use Rattle.node_server.specs.Status.{IsTold, guarded_behind, not_allowed_by, served_behind}
+use Rattle.node_server.specs.Status.{IsOfUsers, IsTold, guarded_behind, not_allowed_by, served_behind}
 use Rattle.node_server.specs.Views.{keeper_of}
 use Rattle.node_server.specs.declared.served.ServedNode.{ServedNode}
 use Rattle.node_server.specs.declared.status.NodeTeller.{NodeTeller}
 use Rattle.node_work.specs.View.{HeldView, NodeView}
 use Rattle.status_figures.specs.declared.figures.Figures.{Figures}
+use Rattle.status_figures.specs.declared.figures.NotAllowed.{NotAllowed}
 use Rattle.status_tally.specs.Views.{inside_of, tally_of}
 use Rattle.status_tally.specs.declared.tally.Tally.{Tally}
 use Rattle.door_tables.specs.Views.{inside_of as tabled_in}
+
+of_users_told : (n : Refusals) (links : ℕ) (told : NotAllowed) → told ≡ not_allowed_by n links → IsOfUsers n told
+of_users_told n links told is = is ∙ ap (λ (l : ℕ). not_allowed_by n l) (sym (ap (λ (t : NotAllowed). t.links) is))
 
 -- the figures of the node that is found behind one door after another
 pub told_of : {R F G E : Type 0} (d : TalliedNode R F G E) (logged : LoggedNode R F G E) (limited : LimitedNode R F G) (bounded : BoundedNode R F G)
     (guarded : GuardedNode R F) (tabled : TabledNode R F) (served : ServedNode R) (n : NodeView) → logged ≡ inside_of d → limited ≡ logged_in logged → bounded ≡ limited_in limited → guarded ≡ bounded_in bounded → tabled ≡ guarded_in guarded → served ≡ tabled_in tabled → n ≡ node_in (keeper_of served)
     → (teller : NodeTeller) (name : List ℕ) (at : ℕ) (tally : Tally) (figures : Figures) → Some tally ≡ tally_of d → name ≡ string_bytes teller.name
-    → ((h : HeldView) → n.up ≡ Some h → AreFigures name teller.since at n h tally figures) → (refusals : Refusals) → refusals ≡ refusals_of guarded.door → figures.not_allowed ≡ not_allowed_by refusals → IsTold teller d at figures
-told_of {R = R} {F = F} {G = G} {E = E} d logged limited bounded guarded tabled served n is_logged is_limited is_bounded is_guarded is_tabled is_served is_node teller name at tally figures counts named are refusals counted not_allowed =
+    → ((h : HeldView) → n.up ≡ Some h → AreFigures name teller.since at n h tally figures) → (refusals : Refusals) (links : ℕ) → refusals ≡ refusals_of guarded.door → figures.not_allowed ≡ not_allowed_by refusals links → IsTold teller d at figures
+told_of {R = R} {F = F} {G = G} {E = E} d logged limited bounded guarded tabled served n is_logged is_limited is_bounded is_guarded is_tabled is_served is_node teller name at tally figures counts named are refusals links counted not_allowed =
     let found_limited : limited ≡ logged_in (inside_of d) = is_limited ∙ ap (λ (l : LoggedNode R F G E). logged_in l) is_logged in
     let found_bounded : bounded ≡ limited_in (logged_in (inside_of d)) = is_bounded ∙ ap (λ (l : LimitedNode R F G). limited_in l) found_limited in
     let found_guarded : guarded ≡ bounded_in (limited_in (logged_in (inside_of d))) = is_guarded ∙ ap (λ (b : BoundedNode R F G). bounded_in b) found_bounded in
@@ -35,4 +39,4 @@ told_of {R = R} {F = F} {G = G} {E = E} d logged limited bounded guarded tabled 
     let Named : List ℕ → Type 0 = λ x. (h : HeldView) → n.up ≡ Some h → AreFigures x teller.since at n h tally figures in
     let Found : NodeView → Type 0 = λ m. (h : HeldView) → m.up ≡ Some h → AreFigures (string_bytes teller.name) teller.since at m h tally figures in
     let of_users : refusals ≡ refusals_of (guarded_behind d).door = counted ∙ ap (λ (g : GuardedNode R F). refusals_of g.door) found_guarded in
-    record { tally = tally; counts = sym counts; are = subst Found node (subst Named named are); not_allowed = not_allowed ∙ ap not_allowed_by of_users }
+    record { tally = tally; counts = sym counts; are = subst Found node (subst Named named are); not_allowed = of_users_told (refusals_of (guarded_behind d).door) links figures.not_allowed (not_allowed ∙ ap (λ (r : Refusals). not_allowed_by r links) of_users) }
