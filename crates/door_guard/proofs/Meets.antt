@@ -263,9 +263,10 @@ module _ {H : Type 0} (handles : H → Event → List Output → H → Type 0) (
     came_alone bytes h h' k k' o p (Some x) is goes d =
         came_on bytes (λ b. false) x x (steps.Tells bytes.items ∷ []) h h' k k k' o p is (sym (goes (λ b. false))) (record { at = sym is; others = λ q e. refl }) d
 
-    pub came_told : (bytes : Buffer) (h h' : H) (k k' : Clients) (o p : Ledger) → GoesOn r bytes.items (client_of k c) → AreDone handles r moment c (steps.Tells bytes.items ∷ []) h h' k k' o p
-        → IsMet handles r moment (λ q. noted q (kinds.Piece c bytes)) h h' k k' o p
-    came_told bytes h h' k k' o p goes d = came_alone bytes h h' k k' o p (client_of k c) refl goes d
+    pub came_told : (bytes : Buffer) (xs : List ℕ) (h h' : H) (k k' : Clients) (o p : Ledger) → xs ≡ bytes.items → GoesOn r bytes.items (client_of k c)
+        → AreDone handles r moment c (steps.Tells xs ∷ []) h h' k k' o p → IsMet handles r moment (λ q. noted q (kinds.Piece c bytes)) h h' k k' o p
+    came_told bytes xs h h' k k' o p same goes d =
+        came_alone bytes h h' k k' o p (client_of k c) refl goes (subst (λ (ys : List ℕ). AreDone handles r moment c (steps.Tells ys ∷ []) h h' k k' o p) same d)
 
 -- ---- an event, behind what is told of connections whose end went out
 

@@ -109,7 +109,6 @@ fn go_on<A: Access>(
 }
 
 /// Bytes came on a connection, and go on as they came.
-#[tactic(auto, using(crate::proofs::Meets::came_told))]
 fn take_going<H: Handler, A: Access>(
     alloc: Global,
     access: &A,
