@@ -10,7 +10,7 @@ use Rattle.broker_sockets.specs.declared.events.EventKind.{EventKind}
 use Rattle.broker_sockets.specs.declared.events.EventKind.TheVariants as kinds
 use Rattle.broker_sockets.specs.declared.events.Output.{Output}
 use Rattle.door_guard.specs.Answering.{IsAnsweredIf, IsHeardIf, IsPassedOn}
-use Rattle.door_guard.specs.Clients.{IsBut, client_of, is_leaving_of, is_told_at, is_told_of, restaged}
+use Rattle.door_guard.specs.Clients.{GoesOn, IsBut, client_of, is_leaving_of, is_told_at, is_told_of, restaged}
 use Rattle.door_guard.specs.Counts.{Refused}
 use Rattle.door_packets.specs.Rights.{Rights}
 use Rattle.door_packets.specs.Sending.{Buffer}
@@ -29,6 +29,7 @@ use Rattle.door_guard.specs.declared.counts.Refusals.{Refusals}
 use Rattle.door_guard.specs.declared.door.Door.{Door}
 use Rattle.door_guard.specs.declared.known.Known.{Known}
 use Rattle.door_packets.specs.declared.step.Step.{Step}
+use Rattle.door_packets.specs.declared.step.Step.TheVariants as steps
 use Rattle.door_guard.proofs.Paths.{at_idle, but_then, idle_todo, itself, one, part_as, part_quiet, part_then, paths_as, paths_at, paths_none, paths_then, staged_but, staged_here, staged_there}
 
 -- an event of one connection alone
@@ -233,14 +234,13 @@ module _ {H : Type 0} (handles : H → Event → List Output → H → Type 0) (
           (sym (of_it c (Piece bytes.items))) tt refl (came_away bytes) (λ q e. refl) refl);
     }
 
-    pub came_some : (bytes : Buffer) (marked : List ℕ → Bool) (x y : Client) (did : List Step) (h h' : H) (k l m k' : Clients) (o p : Ledger) → Some x ≡ client_of k c → IsBut c None k l
-        → walk_of y did ≡ come r marked x bytes.items → IsBut c (Some y) l m → AreDone handles r moment c did h h' m k' o p → IsMet handles r moment (λ q. noted q (kinds.Piece c bytes)) h h' k k' o p
-    came_some bytes marked x y did h h' k l m k' o p is gone walk put d =
+    came_on : (bytes : Buffer) (marked : List ℕ → Bool) (x y : Client) (did : List Step) (h h' : H) (k m k' : Clients) (o p : Ledger) → Some x ≡ client_of k c
+        → walk_of y did ≡ come r marked x bytes.items → IsBut c (Some y) k m → AreDone handles r moment c did h h' m k' o p → IsMet handles r moment (λ q. noted q (kinds.Piece c bytes)) h h' k k' o p
+    came_on bytes marked x y did h h' k m k' o p is walk but d =
         let met : ℕ → List Notice = λ q. noted q (kinds.Piece c bytes) in
         let doing : Doing = record { todo = did; awaited = None } in
         let s1 : Stages = staged (at c doing) m in
         let e : Effect = quiet (held_by doing (Some y)) in
-        let but : IsBut c (Some y) k m = but_then c None (Some y) k l m gone put in
         let comes : effect r (idly k c) (Comes marked bytes.items) ≡ e =
         ap (λ (z : Option Client). effect r (held_by idle z) (Comes marked bytes.items)) (sym is) ∙ ap (λ (w : Walked). quiet (Some (working w))) (sym walk) in
         let first : ArePaths r met none [] [] (idly k) s1 o.1 o.1 =
@@ -252,6 +252,21 @@ module _ {H : Type 0} (handles : H → Event → List Output → H → Type 0) (
         subst (λ (ss : List Step). IsPart handles r moment none (staged (at c (record { todo = ss; awaited = None })) m) (staged (at c idle) k') h h' o p) nothing (d.part []) in
         let all = part_then handles r moment met none (idly k) s1 (staged (at c idle) k') h h h' o o p (part_quiet handles r moment met [] (idly k) s1 h o o refl first) second in
         record { part = part_as handles r moment (λ q. met q ++ none q) met (idly k) (idly k) (staged (at c idle) k') (idly k') h h' o p (λ q. append-nil (met q)) (λ q. refl) (at_idle c k') all }
+
+    pub came_some : (bytes : Buffer) (marked : List ℕ → Bool) (x y : Client) (did : List Step) (h h' : H) (k l m k' : Clients) (o p : Ledger) → Some x ≡ client_of k c → IsBut c None k l
+        → walk_of y did ≡ come r marked x bytes.items → IsBut c (Some y) l m → AreDone handles r moment c did h h' m k' o p → IsMet handles r moment (λ q. noted q (kinds.Piece c bytes)) h h' k k' o p
+    came_some bytes marked x y did h h' k l m k' o p is gone walk put d = came_on bytes marked x y did h h' k m k' o p is walk (but_then c None (Some y) k l m gone put) d
+
+    came_alone : (bytes : Buffer) (h h' : H) (k k' : Clients) (o p : Ledger) (z : Option Client) → z ≡ client_of k c → GoesOn r bytes.items z → AreDone handles r moment c (steps.Tells bytes.items ∷ []) h h' k k' o p
+        → IsMet handles r moment (λ q. noted q (kinds.Piece c bytes)) h h' k k' o p
+    came_alone bytes h h' k k' o p None is goes d = absurd goes
+    came_alone bytes h h' k k' o p (Some x) is goes d =
+        came_on bytes (λ b. false) x x (steps.Tells bytes.items ∷ []) h h' k k k' o p is (sym (goes (λ b. false))) (record { at = sym is; others = λ q e. refl }) d
+
+    pub came_told : (bytes : Buffer) (xs : List ℕ) (h h' : H) (k k' : Clients) (o p : Ledger) → xs ≡ bytes.items → GoesOn r bytes.items (client_of k c)
+        → AreDone handles r moment c (steps.Tells xs ∷ []) h h' k k' o p → IsMet handles r moment (λ q. noted q (kinds.Piece c bytes)) h h' k k' o p
+    came_told bytes xs h h' k k' o p same goes d =
+        came_alone bytes h h' k k' o p (client_of k c) refl goes (subst (λ (ys : List ℕ). AreDone handles r moment c (steps.Tells ys ∷ []) h h' k k' o p) same d)
 
 -- ---- an event, behind what is told of connections whose end went out
 

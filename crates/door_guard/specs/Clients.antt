@@ -1,7 +1,10 @@
 -- The connections of clients that are open.
-use Rattle.std.specs.Prelude.{◌≡◌, ◌==◌, not, ℕ, Bool, true, false, Option, Some, None}
+use Rattle.std.specs.Prelude.{◌≡◌, ◌==◌, not, ℕ, List, Bool, true, false, Option, Some, None}
 use Rattle.std.specs.BTreeMap.{get}
 use Rattle.std.specs.Ordering.{nat_cmp}
+use Rattle.door_packets.specs.Coming.{come}
+use Rattle.door_packets.specs.Passing.{told_alone}
+use Rattle.door_packets.specs.Rights.{Rights}
 use Rattle.door_packets.specs.Walk.{is_leaving}
 use Rattle.door_packets.specs.declared.access.Login.{Login}
 use Rattle.door_packets.specs.declared.client.Client.{Client}
@@ -44,3 +47,8 @@ login_at (Some c) = c.login
 abbrev pub restaged : Stage → Option Client → Option Client
 restaged stage None = None
 restaged stage (Some c) = Some (record c { stage = stage })
+
+-- it is open, and these bytes of it go on as they came: nothing else is to be done, and what is known of it stays
+abbrev pub GoesOn : Rights → List ℕ → Option Client → Type 0
+GoesOn r bs None = ⊥
+GoesOn r bs (Some c) = (marked : List ℕ → Bool) → come r marked c bs ≡ told_alone c bs

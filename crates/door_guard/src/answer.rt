@@ -1,18 +1,21 @@
 //! What comes of an event where there are users.
 
-ghost use Rattle.std.specs.Prelude.{◌≡◌, [], None, IfErr, IfOk, OnOk};
+ghost use Rattle.std.specs.Prelude.{◌≡◌, [], None, true, IfErr, IfOk, OnOk};
 ghost use Rattle.broker_sockets.specs.declared.events.EventKind.TheVariants.{Opened, Piece, Room, Closed};
 ghost use Rattle.door_guard.specs.Answering.{IsPassedOn};
+ghost use Rattle.door_guard.specs.Clients.{GoesOn, client_of};
 ghost use Rattle.door_guard.specs.Faults.{IsDeclinedOn, IsStopped};
 ghost use Rattle.door_guard.specs.Stages.{noted};
 ghost use Rattle.door_guard.specs.Telling.{IsMet, IsTold};
 
+use crate::clients::Clients;
 use crate::fault::GuardFault;
 use crate::giving::give;
 use crate::known::{Known, forget};
-use crate::telling::{do_steps, leave_all, tell};
+use crate::telling::{do_step, do_steps, leave_all, tell};
 use broker_sockets::{BridgeHandler, Event, EventKind, Given, Handler, Output, PeerEvent};
-use door_packets::{Access, Client, Stage, Walk, come};
+use door_packets::{Access, Client, Stage, Step, Walk, come, goes_on};
+use mqtt_packets::Bytes;
 use std::alloc::Global;
 
 /// Tells the handler inside of an event that is on no connection, or on one of which it knows.
@@ -89,6 +92,40 @@ fn go<H: Handler, A: Access>(
     pass(alloc, access, inside, known, place, kind, outputs)
 }
 
+/// Whether bytes that came on a connection go on as they came, and nothing else is to be done.
+fn go_on<A: Access>(
+    alloc: Global,
+    access: &A,
+    clients: &Clients,
+    connection: u64,
+    bytes: &[u8],
+) -> bool
+    ensures { result ≡ true → GoesOn (A.rights access.now) bytes.now (client_of clients.now connection) }
+{
+    match clients.get(connection) {
+        None => false,
+        Some(client) => goes_on(alloc, access, client, bytes),
+    }
+}
+
+/// Bytes came on a connection, and go on as they came.
+fn take_going<H: Handler, A: Access>(
+    alloc: Global,
+    access: &A,
+    inside: &mut H,
+    known: &mut Known,
+    place: (u64, u64),
+    bytes: Vec<u8>,
+    outputs: &mut Vec<Output>,
+) -> Result<(), GuardFault<H::Fault>>
+    requires { GoesOn (A.rights access.now) bytes.items (client_of known.old.clients place.1) }
+    ensures ok { OnOk result (IsMet H.handles (A.rights access.now) place.0 (λ q. noted q (Piece place.1 bytes)) inside.old inside.new known.old.clients known.new.clients (known.old.refusals, outputs.old.items) (known.new.refusals, outputs.new.items)) }
+    ensures fault { IfErr result (IsStopped H.handles H.refuses inside.old inside.new) }
+{
+    let step = Step::Tells(Bytes::new(bytes));
+    do_step(alloc, access, inside, known, place, step, outputs)
+}
+
 /// Bytes came on a connection.
 #[tactic(auto, using(crate::proofs::Meets::came_none, crate::proofs::Meets::came_some))]
 fn take_bytes<H: Handler, A: Access>(
@@ -103,6 +140,9 @@ fn take_bytes<H: Handler, A: Access>(
     ensures ok { OnOk result (IsMet H.handles (A.rights access.now) place.0 (λ q. noted q (Piece place.1 bytes)) inside.old inside.new known.old.clients known.new.clients (known.old.refusals, outputs.old.items) (known.new.refusals, outputs.new.items)) }
     ensures fault { IfErr result (IsStopped H.handles H.refuses inside.old inside.new) }
 {
+    if go_on(alloc, access, &known.clients, place.1, &bytes) {
+        return take_going(alloc, access, inside, known, place, bytes, outputs);
+    }
     match known.clients.take(place.1) {
         None => Ok(()),
         Some(client) => {

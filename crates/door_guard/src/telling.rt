@@ -81,7 +81,7 @@ fn turn_away(
 
 /// Does one thing, if the connection is open.
 #[tactic(auto, using(crate::proofs::Steps::done_silent, crate::proofs::Steps::done_opens, crate::proofs::Steps::done_asks, crate::proofs::Steps::done_rooms, crate::proofs::Steps::done_tells, crate::proofs::Steps::done_acks, crate::proofs::Steps::done_subacks, crate::proofs::Steps::done_drops, crate::proofs::Steps::done_turns, crate::proofs::Steps::done_ends))]
-fn do_step<H: Handler, A: Access>(
+pub(crate) fn do_step<H: Handler, A: Access>(
     alloc: Global,
     access: &A,
     inside: &mut H,

@@ -5,5 +5,6 @@ pub mod Marking
 pub mod Merging
 pub mod Ordering
 pub mod PacketFronts
+pub mod Passing
 pub mod Sent
 pub mod Views

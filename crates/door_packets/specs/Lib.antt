@@ -6,6 +6,7 @@ pub mod Going
 pub mod Laws
 pub mod Marks
 pub mod Packets
+pub mod Passing
 pub mod Rights
 pub mod Sending
 pub mod StreamLaws

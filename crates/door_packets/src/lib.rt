@@ -17,6 +17,7 @@ mod reading;
 mod sending;
 mod step;
 mod subscribe;
+mod unchanged;
 mod walk;
 
 pub use access::{Access, Admission, Login};
@@ -29,4 +30,5 @@ pub use marks::Marks;
 pub use reading::come;
 pub use sending::{may_go, mended, spelled};
 pub use step::Step;
+pub use unchanged::goes_on;
 pub use walk::Walk;

@@ -16,5 +16,5 @@ returns-clause-ok g c =
     if_ok c.do_steps.result
     (came_some g.H.Handler.handles rights c.args.place.0 c.args.place.1 c.args.bytes marked c.in-Some.client c.in_ok-walk-in-Some.walk.client c.in_ok-walk-in-Some.walk.steps.items c.args.inside.now c.do_steps.new.inside
     c.args.known.now.clients c.take.new.self c.put.new.self c.do_steps.new.known.clients (c.args.known.now.refusals, c.args.outputs.now.items) (c.do_steps.new.known.refusals, c.do_steps.new.outputs.items) c.in-Some.ensures.found c.take.ensures.left
-    (c.in_ok-walk-in-Some.ensures ∙ ap (λ (bs : List ℕ). come rights marked c.in-Some.client bs) c.deref.ensures.value) c.in_ok-put-in-Some.ensures)
+    (c.in_ok-walk-in-Some.ensures ∙ ap (λ (bs : List ℕ). come rights marked c.in-Some.client bs) c.deref-in-Some.ensures.value) c.in_ok-put-in-Some.ensures)
     c.do_steps.ensures.ok
