@@ -32,6 +32,7 @@ pub(crate) fn tell_held<E: Write>(error: &mut E) -> io::Result<()>
 }
 
 /// Writes that a link from an address was closed, as a line.
+#[tactic(auto, unfolding(crate::specs::Refusals::stranger_line))]
 pub(crate) fn tell_stranger<E: Write>(error: &mut E, address: &str) -> io::Result<()>
     ensures { OnOk result (Appends (E.contents error.old) (E.contents error.new) (stranger_line address.now)) }
 {

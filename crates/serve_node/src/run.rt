@@ -10,7 +10,7 @@ use crate::source::ConfigurationFile;
 use crate::status::StatusSockets;
 use crate::telling::{Refused, TellingSockets};
 use broker_holds::{GuardedLinks, HoldingSockets, Strain};
-use broker_sockets::{PolledSockets, RealClocks, SteadyClock};
+use broker_sockets::{PolledSockets, Readiness, RealClocks, SteadyClock};
 use cli_files::{TableFile, configuration_bytes, configuration_of, unread};
 use cli_stops::{Ending, RunFault, Stop};
 use door_bounds::{BoundLimits, ProcessMemory};
@@ -192,6 +192,53 @@ fn turns_of(service: &Service<'_>) -> u64 {
     }
 }
 
+/// Runs a named node with these rows over these sockets. Where the system refuses the address of its status that is kept in `refused`.
+fn serve_over<S: Readiness, R: RowStore + Drop, F: Tables + Drop>(
+    rt: &HostRuntime,
+    sockets: &mut S,
+    rows: R,
+    place: (HomeTable, u16),
+    tables: Option<F>,
+    names: Named<'_>,
+    access: Option<FileAccess>,
+    service: Service<'_>,
+    strain: Rc<Strain>,
+    refused: &mut Option<Refused>,
+) -> Result<(), Stop>
+    requires { place.1 < length place.0.nodes }
+{
+    let mut clock = SteadyClock::new(RealClocks::new(rt));
+    let mut refused_status = None;
+    let most_memory = service.bounds.most_memory;
+    let status = place_of(rt, names, most_memory, service.status, &mut refused_status)?;
+    let error = if service.log { Some(rt.stderr()) } else { None };
+    let gauge = TellingGauge::new(gauge_of(rt, &service.bounds), rt.stderr());
+    let losses = if service.log { Some(rt.stderr()) } else { None };
+    let mut out = rt.stdout();
+    let served = node_server::serve(
+        rt.alloc(),
+        sockets,
+        &mut clock,
+        rows,
+        place,
+        service.at,
+        tables,
+        access,
+        (service.bounds, gauge),
+        service.limits,
+        service.mqtt3,
+        error,
+        losses,
+        status,
+        Some(strain),
+        turns_of(&service),
+        &mut out,
+    );
+    *refused = refused_status;
+    served?;
+    Ok(())
+}
+
 /// Runs a named node with these rows. Where the system refuses an address at which it is to wait that is kept in `refused`.
 fn serve_rows<R: RowStore + Drop, F: Tables + Drop>(
     rt: &HostRuntime,
@@ -209,40 +256,26 @@ fn serve_rows<R: RowStore + Drop, F: Tables + Drop>(
         return Err(Stop::Run(RunFault::Socket));
     };
     let strain = strain_of(rt, place.0.nodes())?;
-    let mut refused_here = None;
-    let telling = TellingSockets::new(polled, rt.stderr(), shared(&strain)?, &mut refused_here);
     let bridges = bridges_for(rt, &place.0, service.from_anywhere)?;
-    let guarded = GuardedLinks::new(telling, bridges, shared(&strain)?);
-    let mut sockets = HoldingSockets::new(rt.alloc(), guarded, shared(&strain)?);
-    let mut clock = SteadyClock::new(RealClocks::new(rt));
+    let (told, guards, holds) = (shared(&strain)?, shared(&strain)?, shared(&strain)?);
+    let mut refused_here = None;
+    let telling = TellingSockets::new(polled, rt.stderr(), told, &mut refused_here);
+    let links = GuardedLinks::new(telling, bridges, guards);
+    let mut sockets = HoldingSockets::new(rt.alloc(), links, holds);
     let mut refused_status = None;
-    let most_memory = service.bounds.most_memory;
-    let status = place_of(rt, names, most_memory, service.status, &mut refused_status)?;
-    let error = if service.log { Some(rt.stderr()) } else { None };
-    let gauge = TellingGauge::new(gauge_of(rt, &service.bounds), rt.stderr());
-    let losses = if service.log { Some(rt.stderr()) } else { None };
-    let mut out = rt.stdout();
-    let served = node_server::serve(
-        rt.alloc(),
+    let served = serve_over(
+        rt,
         &mut sockets,
-        &mut clock,
         rows,
         place,
-        service.at,
         tables,
+        names,
         access,
-        (service.bounds, gauge),
-        service.limits,
-        service.mqtt3,
-        error,
-        losses,
-        status,
-        Some(strain),
-        turns_of(&service),
-        &mut out,
+        service,
+        strain,
+        &mut refused_status,
     );
     drop(sockets);
     *refused = refused_here.or(refused_status);
-    served?;
-    Ok(())
+    served
 }

@@ -25,7 +25,7 @@ pub(crate) struct Refused {
 /// The sockets of the system, which keep an address that it refuses with its answer, and write why nobody can be accepted: once, and again only after somebody was.
 /// And they write that clients are held back, and that a link from elsewhere than a bridge of the table was closed, each once a minute at most.
 #[derive(Drop)]
-pub(crate) struct TellingSockets<'a, E> {
+pub(crate) struct TellingSockets<'a, 'b, E> {
     sockets: PolledSockets<'a, HostRuntime>,
     error: E,
     /// Whether it was told since somebody was accepted last.
@@ -39,16 +39,16 @@ pub(crate) struct TellingSockets<'a, E> {
     /// From when on it is told again.
     stranger_again: u64,
     /// The last address that was refused.
-    refused: &'a mut Option<Refused>,
+    refused: &'b mut Option<Refused>,
 }
 
-impl<'a, E> TellingSockets<'a, E> {
+impl<'a, 'b, E> TellingSockets<'a, 'b, E> {
     /// These sockets, with a writer for what they tell; an address that is refused is kept in `refused`.
     pub(crate) fn new(
         sockets: PolledSockets<'a, HostRuntime>,
         error: E,
         strain: Rc<Strain>,
-        refused: &'a mut Option<Refused>,
+        refused: &'b mut Option<Refused>,
     ) -> Self {
         TellingSockets {
             sockets,
@@ -63,7 +63,7 @@ impl<'a, E> TellingSockets<'a, E> {
     }
 }
 
-impl<'a, E: Write> TellingSockets<'a, E> {
+impl<'a, 'b, E: Write> TellingSockets<'a, 'b, E> {
     /// Tells why nobody was accepted, if a listener has failed and it wasn't told yet. A write that fails changes nothing of it.
     fn tell(&mut self) {
         let Some(failure) = self.sockets.take_failure() else {
@@ -93,7 +93,7 @@ fn text_of(alloc: Global, address: Option<u128>) -> Option<String> {
     format!(in alloc; "{address}").ok()
 }
 
-impl<'a, E: Write> TellingSockets<'a, E> {
+impl<'a, 'b, E: Write> TellingSockets<'a, 'b, E> {
     /// Tells that a link was closed, where one was since that was told last, and not within a minute.
     fn tell_stranger(&mut self, alloc: Global) {
         let strangers = self.strain.refused();
@@ -111,7 +111,7 @@ impl<'a, E: Write> TellingSockets<'a, E> {
     }
 }
 
-impl<'a, E: Write> Sockets for TellingSockets<'a, E> {
+impl<'a, 'b, E: Write> Sockets for TellingSockets<'a, 'b, E> {
     type Listener = TcpListener;
 
     type Stream = TcpStream;
@@ -162,7 +162,7 @@ impl<'a, E: Write> Sockets for TellingSockets<'a, E> {
     }
 }
 
-impl<'a, E: Write> Readiness for TellingSockets<'a, E> {
+impl<'a, 'b, E: Write> Readiness for TellingSockets<'a, 'b, E> {
     ghost watches = { λ _ _ _ _ _. Unit {0} };
 
     ghost finds = { λ _ _ _. Unit {0} };
@@ -178,7 +178,7 @@ impl<'a, E: Write> Readiness for TellingSockets<'a, E> {
     }
 }
 
-impl<'a, E: Write> Origins for TellingSockets<'a, E> {
+impl<'a, 'b, E: Write> Origins for TellingSockets<'a, 'b, E> {
     ghost comes_from = { λ _ _. Unit {0} };
 
     fn origin(&self, stream: &TcpStream) -> Option<u128> {
