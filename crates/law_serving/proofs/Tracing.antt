@@ -90,7 +90,7 @@ module _ {T : Type 0} where
 
   heard_same : (got know : Bool) (at : ℕ) (frame : List ℕ) (line : Line T)
       → of_line (if got then record line { heard = true; asked = again at line.asked; got = number_in frame }
-          else if know then record line { heard = true; asked = again at line.asked; awaited = false } else record line { heard = true }) ≡ of_line line
+      else if know then record line { heard = true; asked = again at line.asked; awaited = false } else record line { heard = true }) ≡ of_line line
   heard_same true know at frame line = refl
   heard_same false true at frame line = refl
   heard_same false false at frame line = refl
