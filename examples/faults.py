@@ -4,9 +4,10 @@
     faults.py SECONDS [--seed N] [--nodes N] [--folder DIR] PROGRAM ..
 
 runs the nodes by these words, with `run CONFIG NODE DATABASE` behind them. Every link between two nodes goes through a proxy of this program. Faults are: a node is
-killed (SIGKILL) or stands still (SIGSTOP), its files can't grow as if its disk were full, or it can open no more files; the link from one node to another, or both ways, is closed and refused, loses all that is sent, stands still, is slow and
-passes on small pieces, or is reset; clients vanish; the home of some clients moves by a new table, node by node. After SECONDS all is healed, and what is on its way
-may take two minutes. Then it is wrong, and the status is 1, where
+killed (SIGKILL) or stands still (SIGSTOP), its files can't grow, as on a full disk, until it is started again, or it can open no more files than it has; the link from
+one node to another, or both ways, is closed and refused, loses all that is sent, stands still, is slow and passes on small pieces, or is reset; clients vanish; the
+home of some clients moves by a new table, node by node. After SECONDS all is healed, and what is on its way may take two minutes. Then it is wrong, and the status
+is 1, where
 
 - a message that was acknowledged at QoS 1 or 2 didn't come to a session that is subscribed to it, or one at QoS 0 or 2 came twice;
 - the messages of one publisher at one QoS came first in another order than it sent them;
@@ -21,6 +22,7 @@ With the same seed the same faults are drawn; what the machine does between them
 import argparse
 import asyncio
 import collections
+import contextlib
 import os
 import random
 import resource
@@ -121,19 +123,18 @@ class Node:
     def processes(self):
         """Those that were started as the node: one, or where the program is a script some."""
         for it in filter(str.isdigit, os.listdir("/proc")):
-            try:
+            with contextlib.suppress(OSError):
                 if os.getpgid(int(it)) == self.process.pid:
                     yield int(it)
-            except ProcessLookupError:
-                pass
 
     def limit(self, kind, most):
         """Lets none of them have more of this, and answers what they might have before."""
         before = []
         for process in self.processes():
-            low, high = resource.prlimit(process, kind)
-            resource.prlimit(process, kind, (most(process), high))
-            before.append((process, (low, high)))
+            with contextlib.suppress(OSError):
+                low, high = resource.prlimit(process, kind)
+                resource.prlimit(process, kind, (most(process), high))
+                before.append((process, (low, high)))
         return before
 
     async def fill(self, room, seconds):
@@ -143,7 +144,9 @@ class Node:
         try:
             await asyncio.wait_for(self.process.wait(), seconds)
         except asyncio.TimeoutError:
-            await self.kill()
+            self.signal(signal.SIGKILL)
+            await self.process.wait()
+        if self.process.returncode == -signal.SIGKILL:
             return False
         with open(self.said(), "rb") as file:
             text = file.read()[said:]
@@ -156,7 +159,7 @@ class Node:
         before = self.limit(resource.RLIMIT_NOFILE, lambda it: len(os.listdir(f"/proc/{it}/fd")))
         await asyncio.sleep(seconds)
         for process, limits in before:
-            if self.process.returncode is None:
+            with contextlib.suppress(OSError):
                 resource.prlimit(process, resource.RLIMIT_NOFILE, limits)
 
     def signal(self, number):
