@@ -238,7 +238,7 @@ class Cluster:
 
     async def full(self):
         node = self.random.choice(self.nodes)
-        room, seconds = self.random.choice((10_000, 100_000)), self.random.choice((1, 5))
+        room, seconds = self.random.choice((10_000, 100_000)), self.random.choice((1, 20))
         if node.number in self.busy:
             return
         self.busy.add(node.number)
