@@ -4,9 +4,10 @@
     faults.py SECONDS [--seed N] [--nodes N] [--folder DIR] PROGRAM ..
 
 runs the nodes by these words, with `run CONFIG NODE DATABASE` behind them. Every link between two nodes goes through a proxy of this program. Faults are: a node is
-killed (SIGKILL) or stands still (SIGSTOP); the link from one node to another, or both ways, is closed and refused, loses all that is sent, stands still, is slow and
-passes on small pieces, or is reset; clients vanish; the home of some clients moves by a new table, node by node. After SECONDS all is healed, and what is on its way
-may take two minutes. Then it is wrong, and the status is 1, where
+killed (SIGKILL) or stands still (SIGSTOP), its files can't grow, as on a full disk, until it is started again, or it can open no more files than it has; the link from
+one node to another, or both ways, is closed and refused, loses all that is sent, stands still, is slow and passes on small pieces, or is reset; clients vanish; the
+home of some clients moves by a new table, node by node. After SECONDS all is healed, and what is on its way may take two minutes. Then it is wrong, and the status
+is 1, where
 
 - a message that was acknowledged at QoS 1 or 2 didn't come to a session that is subscribed to it, or one at QoS 0 or 2 came twice;
 - the messages of one publisher at one QoS came first in another order than it sent them;
@@ -14,15 +15,17 @@ may take two minutes. Then it is wrong, and the status is 1, where
 - a will of a client that vanished didn't come, came twice, or one of a client that left came;
 - a session was lost that has moved nowhere;
 - two nodes give a new subscriber other retained messages, or a topic has a message that nobody sent last;
-- a node ended by itself.
+- a node ended by itself, but for one whose files can't grow, with the message about its rows.
 
 With the same seed the same faults are drawn; what the machine does between them differs. Nothing in it is shared with the broker but the bytes of MQTT 5.0.
 """
 import argparse
 import asyncio
 import collections
+import contextlib
 import os
 import random
+import resource
 import shutil
 import signal
 import sys
@@ -66,7 +69,7 @@ class Link:
             if self.mode == "stands":
                 await self.healed.wait()
             elif self.mode == "slow":
-                while came:
+                while came and not writer.is_closing():
                     size = random.choice((1, 7, 100, 4000))
                     await asyncio.sleep(random.random() * 0.05)
                     writer.write(came[:size])
@@ -90,6 +93,11 @@ class Link:
         self.mode = "passes" if mode == "reset" else mode
 
 
+def ignore_long_files():
+    """A write past the longest that a file may be is refused, and ends no program."""
+    signal.signal(signal.SIGXFSZ, signal.SIG_IGN)
+
+
 class Node:
     def __init__(self, number, program, folder):
         self.number, self.program, self.folder = number, program, folder
@@ -97,8 +105,10 @@ class Node:
 
     async def start(self):
         words = [*self.program, "run", f"{self.folder}/{self.name}-{self.version}.toml", self.name, f"{self.folder}/{self.name}.db"]
-        with open(f"{self.folder}/{self.name}.err", "ab") as err:
-            self.process = await asyncio.create_subprocess_exec(*words, stdout=asyncio.subprocess.PIPE, stderr=err, start_new_session=True)
+        with open(self.said(), "ab") as err:
+            self.process = await asyncio.create_subprocess_exec(
+                *words, stdout=asyncio.subprocess.PIPE, stderr=err, start_new_session=True, preexec_fn=ignore_long_files
+            )
         self.starts += 1
         try:
             line = await asyncio.wait_for(self.process.stdout.readline(), STARTS)
@@ -106,6 +116,51 @@ class Node:
             line = f"nothing in {STARTS} seconds".encode()
         if not line.startswith(b"ready"):
             self.faults.append(f"{self.name} isn't ready: {line!r}")
+
+    def said(self):
+        return f"{self.folder}/{self.name}.err"
+
+    def processes(self):
+        """Those that were started as the node: one, or where the program is a script some."""
+        for it in filter(str.isdigit, os.listdir("/proc")):
+            with contextlib.suppress(OSError):
+                if os.getpgid(int(it)) == self.process.pid:
+                    yield int(it)
+
+    def limit(self, kind, most):
+        """Lets none of them have more of this, and answers what they might have before."""
+        before = []
+        for process in self.processes():
+            with contextlib.suppress(OSError):
+                low, high = resource.prlimit(process, kind)
+                resource.prlimit(process, kind, (most(process), high))
+                before.append((process, (low, high)))
+        return before
+
+    async def fill(self, room, seconds):
+        """Its files don't grow past some length. It ends with its message, which is told, or is killed after so many seconds."""
+        said = os.path.getsize(self.said())
+        self.limit(resource.RLIMIT_FSIZE, lambda _: said + room)
+        try:
+            await asyncio.wait_for(self.process.wait(), seconds)
+        except asyncio.TimeoutError:
+            self.signal(signal.SIGKILL)
+            await self.process.wait()
+        if self.process.returncode == -signal.SIGKILL:
+            return False
+        with open(self.said(), "rb") as file:
+            text = file.read()[said:]
+        if self.process.returncode != 1 or b"broker: the rows in " not in text:
+            self.faults.append(f"{self.name} ended with status {self.process.returncode} where its files can't grow, and said {text!r}")
+        return True
+
+    async def hold_files(self, seconds):
+        """It can open no more files than it has."""
+        before = self.limit(resource.RLIMIT_NOFILE, lambda it: len(os.listdir(f"/proc/{it}/fd")))
+        await asyncio.sleep(seconds)
+        for process, limits in before:
+            with contextlib.suppress(OSError):
+                resource.prlimit(process, resource.RLIMIT_NOFILE, limits)
 
     def signal(self, number):
         if self.process and self.process.returncode is None:
@@ -179,6 +234,28 @@ class Cluster:
         node.signal(signal.SIGSTOP)
         await asyncio.sleep(seconds)
         node.signal(signal.SIGCONT)
+        self.busy.discard(node.number)
+
+    async def full(self):
+        node = self.random.choice(self.nodes)
+        room, seconds = self.random.choice((10_000, 100_000)), self.random.choice((1, 20))
+        if node.number in self.busy:
+            return
+        self.busy.add(node.number)
+        self.tally["full disks"] += 1
+        if await node.fill(room, seconds):
+            self.tally["ended at a full disk"] += 1
+        await node.start()
+        self.busy.discard(node.number)
+
+    async def no_files(self):
+        node = self.random.choice(self.nodes)
+        seconds = self.random.choice((1, 4, 10))
+        if node.number in self.busy:
+            return
+        self.busy.add(node.number)
+        self.tally["no more files"] += 1
+        await node.hold_files(seconds)
         self.busy.discard(node.number)
 
     async def link(self):
@@ -381,9 +458,10 @@ async def compare_retained(cluster, load):
 async def disturb(cluster, load, seconds):
     loop = asyncio.get_running_loop()
     end, tasks = loop.time() + seconds, set()
+    faults = (cluster.down, cluster.still, cluster.full, cluster.no_files, cluster.link, cluster.move, load.vanish, None)
     while loop.time() < end:
         await asyncio.sleep(cluster.random.random() * 1.5)
-        fault = cluster.random.choices((cluster.down, cluster.still, cluster.link, cluster.move, load.vanish, None), (3, 2, 6, 0.5, 4, 3))[0]
+        fault = cluster.random.choices(faults, (3, 2, 1, 1, 6, 0.5, 4, 3))[0]
         if fault is None:
             load.drop_somebody()
             cluster.tally["clients dropped"] += 1
