@@ -148,14 +148,14 @@ fn peers_are_dialled_until_they_answer(rt: HostRuntime) -> Result<(), Fail> {
     is_dialled(&rt, alloc, 2, (4, 500), (2, 0, 0), b"");
     is_dialled(&rt, alloc, 2, (5, 500), (3, 1, 0), b"h");
     // more isn't asked for where something waits
-    // nor before the peer's Hello, of which a byte is read in each turn from the third on
-    is_dialled(&rt, alloc, 2, (10, 500), (3, 1, 0), b"hi");
-    is_dialled(&rt, alloc, 2, (11, 500), (3, 1, 1), b"him");
-    is_dialled(&rt, alloc, 2, (14, 500), (3, 1, 1), b"himore");
+    // nor before the peer's Hello, of which a byte is read in each turn from the second on
+    is_dialled(&rt, alloc, 2, (9, 500), (3, 1, 0), b"hi");
+    is_dialled(&rt, alloc, 2, (10, 500), (3, 1, 1), b"him");
+    is_dialled(&rt, alloc, 2, (13, 500), (3, 1, 1), b"himore");
     // all is asked for once
     is_dialled(&rt, alloc, 2, (16, 500), (3, 1, 1), b"himore");
-    is_dialled(&rt, alloc, 0, (10, 1), (1, 1, 0), b"hi");
-    is_dialled(&rt, alloc, 0, (14, 1), (1, 1, 1), b"himore");
+    is_dialled(&rt, alloc, 0, (9, 1), (1, 1, 0), b"hi");
+    is_dialled(&rt, alloc, 0, (13, 1), (1, 1, 1), b"himore");
     is_dialled(&rt, alloc, 0, (16, 1), (1, 1, 1), b"himore");
     Ok(())
 }
@@ -178,7 +178,7 @@ const GOT_SEVEN: &[u8] = b"\0\0\0\x0d\x05\0\0\0\x01\0\0\0\0\0\0\0\x07";
 
 const KNOW: &[u8] = b"\0\0\0\x05\x03\0\0\0\x01";
 
-/// How often a peer is given this frame in so many turns, a millisecond after each other, where a link brings the first bytes, which are read in the third turn, and the others after
+/// How often a peer is given this frame in so many turns, a millisecond after each other, where a link brings the first bytes, which are read in the second turn, and the others after
 /// five; how often more is asked for than was given, and after which number last.
 fn supplied_once(
     rt: &impl Abort,
@@ -239,11 +239,11 @@ fn a_peer_is_given_nothing_before_it_is_heard(rt: HostRuntime) -> Result<(), Fai
 fn a_peer_is_given_more_than_it_was_given(rt: HostRuntime) -> Result<(), Fail> {
     let alloc = rt.alloc();
     let cases = [
-        (SEVENTH, b"".as_slice(), 2, (0, 0, 0)),
-        (SEVENTH, b"", 3, (1, 0, 0)),
-        (SEVENTH, b"", 9, (1, 6, 7)),
+        (SEVENTH, b"".as_slice(), 1, (0, 0, 0)),
+        (SEVENTH, b"", 2, (1, 0, 0)),
+        (SEVENTH, b"", 9, (1, 7, 7)),
         // fewer than 16,384 messages are unconfirmed
-        (LAST_BUT_ONE, b"", 9, (1, 6, 16383)),
+        (LAST_BUT_ONE, b"", 9, (1, 7, 16383)),
         (LAST, b"", 9, (1, 0, 0)),
         (LAST, GOT_ONE, 9, (1, 3, 16384)),
         // the answer to a Delta is waited for
@@ -251,7 +251,7 @@ fn a_peer_is_given_more_than_it_was_given(rt: HostRuntime) -> Result<(), Fail> {
         (DELTA, GOT_ONE, 9, (1, 0, 0)),
         (DELTA, KNOW, 9, (1, 3, 0)),
         // what nobody answers isn't
-        (HELLO, b"", 9, (1, 6, 0)),
+        (HELLO, b"", 9, (1, 7, 0)),
     ];
     for (frame, bytes, turns, wanted) in cases {
         assert!(rt; supplied(&rt, alloc, frame, bytes, turns) == wanted);
@@ -274,7 +274,7 @@ fn a_silent_peer_is_given_all_after_a_second(rt: HostRuntime) -> Result<(), Fail
         b"\0\0\0\x05\x04\0\0\0\x01",
         b"\0\0\0\x05\x06\0\0\0\x01",
     ];
-    for (turns, times) in [(1002, 1), (1003, 2)] {
+    for (turns, times) in [(1001, 1), (1002, 2)] {
         for bytes in others {
             let (shipped, _, _) = supplied(&rt, alloc, SEVENTH, bytes, turns);
             assert_eq!(rt; shipped, times, "{turns} turns");
