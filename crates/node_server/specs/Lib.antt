@@ -5,6 +5,7 @@ pub mod Opening
 pub mod Outputs
 pub mod Peers
 pub mod Printing
+pub mod Running
 pub mod Serving
 pub mod Stack
 pub mod Status

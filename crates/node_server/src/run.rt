@@ -7,6 +7,7 @@ ghost use Rattle.node_server.specs.Losses.{ToldLosses};
 ghost use Rattle.node_server.specs.Opening.{IsNotOlder, WasOpened};
 ghost use Rattle.node_server.specs.Peers.{ArePeers};
 ghost use Rattle.node_server.specs.Printing.{ready_line, turns_line};
+ghost use Rattle.node_server.specs.Running.{AreMade};
 ghost use Rattle.node_work.specs.View.{place_of};
 
 use crate::fault::of_turn;
@@ -14,13 +15,13 @@ use crate::losses::losses_of;
 use crate::opening::open_after;
 use crate::peers::peers_of;
 use crate::served::ServedNode;
-use crate::stack::LoggedNode;
+use crate::stack::{LoggedNode, ViewedNode};
 use crate::status::{NodeTeller, StatusPlace, open_desk};
 use crate::straining::watch_of;
 use crate::viewed::Viewed;
 use crate::watchers::Watchers;
 use broker_holds::Strain;
-use broker_sockets::{Clock, Readiness, Sockets, bind};
+use broker_sockets::{BridgeHandler, Clock, Handler, Readiness, Sockets, bind};
 use broker_turns::{Hub, Setting};
 use cli_stops::RunFault;
 use door_bounds::{BoundLimits, Bounded, Gauge};
@@ -184,6 +185,11 @@ fn run_node<
 ) -> Result<(), RunFault>
     requires few { length setting.peers.items ≤ 64 }
     requires newest { IsNotOlder (node_of keeper) }
+    ensures made { OnOk result (AreMade S.accepts S.watches S.connects S.reads S.writes S.finds
+        ⟦<Mqtt3<ViewedNode<R, F, G, E, Watchers<Z, U, E>>> as Handler>⟧.handles
+        ⟦<Mqtt3<ViewedNode<R, F, G, E, Watchers<Z, U, E>>> as BridgeHandler>⟧.hears
+        ⟦<Mqtt3<ViewedNode<R, F, G, E, Watchers<Z, U, E>>> as Handler>⟧.settles
+        C.tells setting keeper turns sockets.old clock.old sockets.new) }
 {
     let nodes = keeper.node().homes().nodes();
     let tally = tally_if(alloc, desk.is_some(), nodes)?;
