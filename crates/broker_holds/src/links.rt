@@ -1,6 +1,6 @@
 //! Sockets on which another node's link is taken only where it comes from one of the table's addresses.
 
-ghost use Rattle.std.specs.Prelude.{◌≡◌};
+ghost use Rattle.std.specs.Prelude.{◌≡◌, is_none};
 ghost use Rattle.std.specs.List.{list_any};
 ghost use Rattle.broker_holds.specs.Links.{IsAdmittedBy, StrangersAreNotWatched, is_same, takes};
 
@@ -76,6 +76,7 @@ impl<S> GuardedLinks<S> {
     /// Takes newer addresses, where some are told and links aren't taken from anywhere.
     fn learn(&mut self)
         ensures sockets { self.new.sockets ≡ self.old.sockets }
+        ensures anywhere { is_none self.new.bridges ≡ is_none self.old.bridges }
     {
         if self.bridges.is_none() {
             return;
@@ -146,11 +147,12 @@ impl<S: Origins> Sockets for GuardedLinks<S> {
 }
 
 impl<S: Origins> Readiness for GuardedLinks<S> {
+    ghost use Rattle.std.specs.Prelude.{◌≡◌, is_none};
     ghost use Rattle.broker_holds.specs.Links.{IsWatchedIfAdmitted};
 
     ghost watches = { IsWatchedIfAdmitted S.comes_from S.watches };
 
-    ghost finds = { λ n found n'. S.finds n.sockets found n'.sockets };
+    ghost finds = { λ n found n'. S.finds n.sockets found n'.sockets × (is_none n'.bridges ≡ is_none n.bridges) };
 
     /// A link that another node begins can't be watched where it comes from elsewhere.
     fn watch(&mut self, stream: &mut S::Stream, name: Watched) -> bool {
