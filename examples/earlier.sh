@@ -36,15 +36,6 @@ load() {
     sed -n 's/.* came: \([0-9]*\) a second.*; \([0-9]*\) for each second.*/\1 \2/p' <<< "$said" >> "$work/$1-$2"
 }
 
-# The middle one of the numbers in the column $2 of the file $1.
-middle() {
-    cut -d' ' -f"$2" "$1" | sort -n | awk '{ it[NR] = $1 } END { print it[int((NR + 1) / 2)] }'
-}
-
-share() {
-    awk -v earlier="$(middle "$work/$1-4" "$2")" -v five="$(middle "$work/$1-5" "$2")" 'BEGIN { printf "%.2f", (five > 0 ? earlier / five : 0) }'
-}
-
 for round in $(seq "$rounds"); do
     for it in "${!loads[@]}"; do
         load "$it" 5 "MQTT 5.0, round $round"
@@ -52,8 +43,8 @@ for round in $(seq "$rounds"); do
     done
 done
 for it in "${!loads[@]}"; do
-    echo "${loads[$it]}: clients of MQTT 3.1.1 got $(share "$it" 1) of what those of MQTT 5.0 got, and $(share "$it" 2) for each second of the processor"
-    if [ "$(share "$it" 1)" = 0.00 ]; then
+    echo "${loads[$it]}: clients of MQTT 3.1.1 got $(share "$work/$it-4" "$work/$it-5" 1) of what those of MQTT 5.0 got, and $(share "$work/$it-4" "$work/$it-5" 2) for each second of the processor"
+    if [ "$(share "$work/$it-4" "$work/$it-5" 1)" = 0.00 ]; then
         failed=1
     fi
 done

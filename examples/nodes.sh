@@ -104,6 +104,16 @@ await_gates() {
     done
 }
 
+# The middle one of the numbers in the column $2 of the file $1.
+middle() {
+    cut -d' ' -f"$2" "$1" | sort -n | awk '{ it[NR] = $1 } END { print it[int((NR + 1) / 2)] }'
+}
+
+# The middle one of the numbers in the column $3 of the file $1, divided by that of the file $2.
+share() {
+    awk -v one="$(middle "$1" "$3")" -v other="$(middle "$2" "$3")" 'BEGIN { printf "%.2f", (other > 0 ? one / other : 0) }'
+}
+
 # Retains a message at n0, and returns once it is acknowledged.
 retain() {
     if ! timeout 60 mosquitto_pub -V 5 -h "$host" -p 1883 -i a-publisher -q 1 -r -t "$1" -m "$2"; then

@@ -52,15 +52,6 @@ load() {
     sed -n 's/.* came: \([0-9]*\) a second.*; \([0-9]*\) for each second.*/\1 \2/p' <<< "$said" >> "$work/$1-$2"
 }
 
-# The middle one of the numbers in the column $2 of the file $1.
-middle() {
-    cut -d' ' -f"$2" "$1" | sort -n | awk '{ it[NR] = $1 } END { print it[int((NR + 1) / 2)] }'
-}
-
-share() {
-    awk -v with="$(middle "$work/$1-with" "$2")" -v without="$(middle "$work/$1-without" "$2")" 'BEGIN { printf "%.2f", (without > 0 ? with / without : 0) }'
-}
-
 for round in $(seq "$rounds"); do
     for it in "${!loads[@]}"; do
         load "$it" without "$round"
@@ -68,8 +59,8 @@ for round in $(seq "$rounds"); do
     done
 done
 for it in "${!loads[@]}"; do
-    echo "${loads[$it]}: with users $(share "$it" 1) of what came without, and $(share "$it" 2) for each second of the processor"
-    if [ "$(share "$it" 1)" = 0.00 ]; then
+    echo "${loads[$it]}: with users $(share "$work/$it-with" "$work/$it-without" 1) of what came without, and $(share "$work/$it-with" "$work/$it-without" 2) for each second of the processor"
+    if [ "$(share "$work/$it-with" "$work/$it-without" 1)" = 0.00 ]; then
         failed=1
     fi
 done
