@@ -28,6 +28,8 @@ PATIENCE = 20
 CONNACK, PUBLISH, PUBACK, SUBACK = 2, 3, 4, 9
 NO_ROOM = 0x97
 KNOW = 3
+# A Hello of a node that has nothing: its format, and then no number and no dot.
+HELLO = b"\0\1" + bytes(20)
 
 
 def text(word):
@@ -379,7 +381,7 @@ class Peer:
 
     def look(self):
         """Hello is answered by Know (docs/cluster.md)."""
-        self.to.sendall(frame(1, 1, 0, b""))
+        self.to.sendall(frame(7, 1, 0, HELLO))
         while self.some(int.from_bytes(self.some(4), "big"))[0] != KNOW:
             pass
         self.served += 1
@@ -401,7 +403,7 @@ def noise(bridge, count, seed, port, listens):
             data = len(data).to_bytes(4, "big") + data
         elif kind == 2:
             # the head of a frame of node 1 for node 0, with noise behind it
-            data = frame(chance.randrange(1, 7), 1, 0, data)
+            data = frame(chance.randrange(1, 8), 1, 0, data)
         try:
             with opened(bridge) as each:
                 each.sendall(data)

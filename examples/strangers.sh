@@ -21,7 +21,7 @@ link.bind((sys.argv[1], 0))
 link.settimeout(1)
 try:
     link.connect(("127.0.0.1", 2883))
-    link.sendall(b"\0\0\0\x05\x01\0\x01\0\0")
+    link.sendall(b"\0\0\0\x1b\x07\0\x01\0\0\0\x01" + bytes(20))
     print("closed" if not link.recv(1) else "stays")
 except TimeoutError:
     print("stays")

@@ -218,6 +218,13 @@ impl Lane {
         true
     }
 
+    /// The number before that of the first message that waits.
+    pub fn gone(&self) -> LaneNumber
+        ensures { result ≡ self.now.lane.gone }
+    {
+        LaneNumber::of(self.base + self.gone as u64)
+    }
+
     /// The number of the last message that was taken.
     pub fn took(&self) -> LaneNumber
         ensures { result ≡ self.now.lane.took }

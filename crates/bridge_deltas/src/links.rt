@@ -282,6 +282,21 @@ impl Links {
         Ok(())
     }
 
+    /// The peer has taken these dots and no others, whatever was known of it. Where memory runs out nothing changes; no dots take none.
+    pub fn greets(&mut self, peer: u16, dots: &Context) -> Result<(), NoMemory>
+        requires { peer < self.old.nodes }
+        ensures ok { OnOk result (self.new
+            ≡ record self.old { beliefs = slice_set self.old.beliefs peer dots.now }) }
+        ensures err { OnErr result (self.new ≡ self.old) }
+        ensures none { dots.now ≡ set.empty → IsOk result }
+    {
+        let belief = dots.copy()?;
+        let place = peer as usize;
+        self.confirmed[place] = count_confirmed(&self.deltas, &belief, 0);
+        self.beliefs[place] = belief;
+        Ok(())
+    }
+
     /// What to send of the store to the peer: nothing where it is known to have taken all, which takes no memory; else the join
     /// of the kept deltas of which it may lack a dot, or the whole store where it may lack one that is in
     /// none of them.
@@ -378,6 +393,16 @@ impl Links {
     {
         match self.lanes.get(peer as usize) {
             Some(lane) => lane.took(),
+            None => LaneNumber::of(0),
+        }
+    }
+
+    /// The number before that of the first message that waits for the peer: 0 for a node that the cluster lacks.
+    pub fn last_gone(&self, peer: u16) -> LaneNumber
+        ensures { result ≡ (kept_of self.now peer).lane.gone }
+    {
+        match self.lanes.get(peer as usize) {
+            Some(lane) => lane.gone(),
             None => LaneNumber::of(0),
         }
     }

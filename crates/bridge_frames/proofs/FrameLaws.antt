@@ -25,18 +25,23 @@ use Rattle.bridge_frames.specs.declared.kind.Kind.TheVariants as kinds
 use Rattle.bridge_frames.specs.Kinds.{kind, kind_in, kind_number}
 use Rattle.bridge_frames.specs.Forwards.{Numbered, got_number, numbered}
 use Rattle.bridge_frames.specs.Memory.{head}
+use Rattle.bridge_frames.specs.declared.greeting.Greeting.{Greeting}
+use Rattle.bridge_frames.specs.Greetings.{greeting}
 use Rattle.bridge_frames.proofs.ForwardLaws.{got_number_is, numbered_is}
-use Rattle.bridge_frames.specs.Frames.{Frame, limit, length_by, length_in, as_delta, as_know, as_forward, as_got, kind_of, hello, body, Parts, frame_of, frame_parts, content, HasSpelling, Spells, spelling, whole_of, whole, frame_of_run, frame_in}
+use Rattle.bridge_frames.proofs.GreetingLaws.{greeting_is}
+use Rattle.bridge_frames.proofs.Seen.{seen_fits}
+use Rattle.bridge_frames.specs.Frames.{Frame, limit, length_by, length_in, as_hello, as_delta, as_know, as_forward, as_got, kind_of, body, Parts, frame_of, frame_parts, content, HasSpelling, Spells, spelling, whole_of, whole, frame_of_run, frame_in}
 
 kind_back : (n : ℕ) (k : Kind) → kind_in n ≡ Some k → kind_number k ≡ n
 kind_back zero k e = absurd cc
-kind_back (suc zero) k e = (let is : k ≡ kinds.Hello = sym cc in rw is refl)
+kind_back (suc zero) k e = absurd cc
 kind_back (suc (suc zero)) k e = absurd cc
 kind_back (suc (suc (suc zero))) k e = (let is : k ≡ kinds.Know = sym cc in rw is refl)
 kind_back (suc (suc (suc (suc zero)))) k e = (let is : k ≡ kinds.Forward = sym cc in rw is refl)
 kind_back (suc (suc (suc (suc (suc zero))))) k e = (let is : k ≡ kinds.Got = sym cc in rw is refl)
 kind_back (suc (suc (suc (suc (suc (suc zero)))))) k e = (let is : k ≡ kinds.Delta = sym cc in rw is refl)
-kind_back (suc (suc (suc (suc (suc (suc (suc n))))))) k e = absurd cc
+kind_back (suc (suc (suc (suc (suc (suc (suc zero))))))) k e = (let is : k ≡ kinds.Hello = sym cc in rw is refl)
+kind_back (suc (suc (suc (suc (suc (suc (suc (suc n)))))))) k e = absurd cc
 
 kind_forth : (k : Kind) → kind_in (kind_number k) ≡ Some k
 kind_forth kinds.Hello = refl
@@ -48,42 +53,43 @@ kind_forth kinds.Got = refl
 kind_is : IsField kind
 kind_is = coded_is kind_in kind_number (number w8) kind_back kind_forth (number_is w8 wide8)
 
-hello_is : IsField hello
-hello_is = record {
-  takes = λ bs x bytes e. let made : FrameBody × List ℕ = (Hello, bs) in subst (λ (y : FrameBody × List ℕ). (bs ≡ y.1) × (y.0 ≡ Hello)) (ok_is made x e) (refl, refl);
-  again = λ b rest fits. ap (λ k. Ok (k, rest)) (sym fits);
-}
+hello_forth : (b : FrameBody) (g : Greeting) → as_hello b ≡ Some g → Hello g ≡ b
+hello_forth (Hello x) g e = (let same : x ≡ g = cc in rw same refl)
+hello_forth (Delta x) g e = absurd cc
+hello_forth (Know x) g e = absurd cc
+hello_forth (Forward x y) g e = absurd cc
+hello_forth (Got x) g e = absurd cc
 
 delta_forth : (b : FrameBody) (s : State) → as_delta b ≡ Some s → Delta s ≡ b
-delta_forth Hello s e = absurd cc
+delta_forth (Hello x) s e = absurd cc
 delta_forth (Delta x) s e = (let same : x ≡ s = cc in rw same refl)
 delta_forth (Know x) s e = absurd cc
 delta_forth (Forward x y) s e = absurd cc
 delta_forth (Got x) s e = absurd cc
 
 know_forth : (b : FrameBody) (s : Dots) → as_know b ≡ Some s → Know s ≡ b
-know_forth Hello s e = absurd cc
+know_forth (Hello x) s e = absurd cc
 know_forth (Delta x) s e = absurd cc
 know_forth (Know x) s e = (let same : x ≡ s = cc in rw same refl)
 know_forth (Forward x y) s e = absurd cc
 know_forth (Got x) s e = absurd cc
 
 forward_forth : (b : FrameBody) (x : Numbered) → as_forward b ≡ Some x → Forward x.0 x.1 ≡ b
-forward_forth Hello s e = absurd cc
+forward_forth (Hello x) s e = absurd cc
 forward_forth (Delta x) s e = absurd cc
 forward_forth (Know x) s e = absurd cc
 forward_forth (Forward n f) s e = (let made : Numbered = (n, f) in let same : made ≡ s = cc in ap (λ (y : Numbered). Forward y.0 y.1) (sym same))
 forward_forth (Got x) s e = absurd cc
 
 got_forth : (b : FrameBody) (n : ℕ) → as_got b ≡ Some n → Got n ≡ b
-got_forth Hello s e = absurd cc
+got_forth (Hello x) s e = absurd cc
 got_forth (Delta x) s e = absurd cc
 got_forth (Know x) s e = absurd cc
 got_forth (Forward x y) s e = absurd cc
 got_forth (Got x) s e = (let same : x ≡ s = cc in rw same refl)
 
 body_is : (k : Kind) → IsField (body k)
-body_is kinds.Hello = hello_is
+body_is kinds.Hello = variant_is Hello as_hello greeting (λ _. refl) hello_forth greeting_is
 body_is kinds.Delta = variant_is Delta as_delta state (λ _. refl) delta_forth state_is
 body_is kinds.Know = variant_is Know as_know context (λ _. refl) know_forth context_is
 body_is kinds.Forward = variant_is (λ x. Forward x.0 x.1) as_forward numbered (λ _. refl) forward_forth numbered_is
@@ -91,38 +97,31 @@ body_is kinds.Got = variant_is Got as_got got_number (λ _. refl) got_forth got_
 
 -- a body of this kind fits no other
 kind_same : (k : Kind) (b : FrameBody) → (body k).Fits b → kind_of b ≡ k
-kind_same kinds.Hello b fits = ap kind_of fits
-kind_same kinds.Delta Hello fits = absurd fits
+kind_same kinds.Hello (Hello _) fits = refl
+kind_same kinds.Hello (Delta _) fits = absurd fits
+kind_same kinds.Hello (Know _) fits = absurd fits
+kind_same kinds.Hello (Forward _ _) fits = absurd fits
+kind_same kinds.Hello (Got _) fits = absurd fits
+kind_same kinds.Delta (Hello _) fits = absurd fits
 kind_same kinds.Delta (Delta _) fits = refl
 kind_same kinds.Delta (Know _) fits = absurd fits
 kind_same kinds.Delta (Forward _ _) fits = absurd fits
 kind_same kinds.Delta (Got _) fits = absurd fits
-kind_same kinds.Know Hello fits = absurd fits
+kind_same kinds.Know (Hello _) fits = absurd fits
 kind_same kinds.Know (Delta _) fits = absurd fits
 kind_same kinds.Know (Know _) fits = refl
 kind_same kinds.Know (Forward _ _) fits = absurd fits
 kind_same kinds.Know (Got _) fits = absurd fits
-kind_same kinds.Forward Hello fits = absurd fits
+kind_same kinds.Forward (Hello _) fits = absurd fits
 kind_same kinds.Forward (Delta _) fits = absurd fits
 kind_same kinds.Forward (Know _) fits = absurd fits
 kind_same kinds.Forward (Forward _ _) fits = refl
 kind_same kinds.Forward (Got _) fits = absurd fits
-kind_same kinds.Got Hello fits = absurd fits
+kind_same kinds.Got (Hello _) fits = absurd fits
 kind_same kinds.Got (Delta _) fits = absurd fits
 kind_same kinds.Got (Know _) fits = absurd fits
 kind_same kinds.Got (Forward _ _) fits = absurd fits
 kind_same kinds.Got (Got _) fits = refl
-
--- the same bytes, for values of another type, of which some that fit are those that are read
-seen_fits : {A B : Type 0} (to : A → B) (from : B → A) (f : Field A) → ((a : A) → f.Fits a → from (to a) ≡ a) → ((b : B) → to (from b) ≡ b) → IsField f → IsField (seen to from f)
-seen_fits {A} {B} to from f back forth F = record {
-  takes = λ bs x fits e.
-      let a = bind_ok (f.at bs) (λ a. Ok (to a.0, a.1)) x e in
-      let s = F.takes bs a.0 fits a.1 in
-      let made : B × List ℕ = (to a.0.0, a.0.1) in
-      subst (λ (y : B × List ℕ). (bs ≡ f.bytes (from y.0) ++ y.1) × f.Fits (from y.0)) (ok_is made x a.2) (rw (back a.0.0 s.1) s);
-  again = λ b rest fits. rw (F.again (from b) rest fits, forth b) refl;
-}
 
 abbrev parts : Field Parts
 parts = after kind (λ k. after (number w16) (λ _. after (number w16) (λ _. body k)))

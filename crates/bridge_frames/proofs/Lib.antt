@@ -1,2 +1,4 @@
+pub mod Seen
 pub mod ForwardLaws
+pub mod GreetingLaws
 pub mod FrameLaws

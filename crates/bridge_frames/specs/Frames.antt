@@ -16,7 +16,9 @@ use Rattle.bridge_frames.specs.declared.frame.BridgeFrame.{BridgeFrame}
 use Rattle.bridge_frames.specs.declared.kind.Kind.{Kind}
 use Rattle.bridge_frames.specs.declared.kind.Kind.TheVariants as kinds
 use Rattle.bridge_frames.specs.Kinds.{kind}
+use Rattle.bridge_frames.specs.declared.greeting.Greeting.{Greeting}
 use Rattle.bridge_frames.specs.Forwards.{Numbered, got_number, numbered}
+use Rattle.bridge_frames.specs.Greetings.{greeting}
 
 abbrev pub Frame : Type 0
 Frame = BridgeFrame
@@ -35,6 +37,10 @@ abbrev pub length_in : List ℕ → Result (Option ℕ) LinkFault
 length_in bs = length_by ((number w32).at bs)
 
 -- ---- bodies
+abbrev pub as_hello : FrameBody → Option Greeting
+as_hello (Hello g) = Some g
+as_hello _ = None
+
 abbrev pub as_delta : FrameBody → Option State
 as_delta (Delta s) = Some s
 as_delta _ = None
@@ -52,15 +58,15 @@ as_got (Got n) = Some n
 as_got _ = None
 
 abbrev pub kind_of : FrameBody → Kind
-kind_of Hello = kinds.Hello
+kind_of (Hello _) = kinds.Hello
 kind_of (Delta _) = kinds.Delta
 kind_of (Know _) = kinds.Know
 kind_of (Forward _ _) = kinds.Forward
 kind_of (Got _) = kinds.Got
 
--- no bytes
+-- what a node says of itself
 abbrev pub hello : Field FrameBody
-hello = record { at = λ bs. Ok (Hello, bs); bytes = λ _. []; Fits = λ b. b ≡ Hello }
+hello = variant Hello as_hello greeting
 
 -- a state
 abbrev pub delta : Field FrameBody

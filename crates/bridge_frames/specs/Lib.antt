@@ -1,5 +1,6 @@
 pub mod Kinds
 pub mod Forwards
+pub mod Greetings
 pub mod Frames
 pub mod Laws
 pub mod Memory

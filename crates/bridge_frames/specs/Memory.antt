@@ -14,7 +14,8 @@ use Rattle.bridge_frames.specs.declared.body.FrameBody.TheVariants as bodies
 use Rattle.bridge_frames.specs.declared.kind.Kind.{Kind}
 use Rattle.bridge_frames.specs.declared.kind.Kind.TheVariants as kinds
 use Rattle.bridge_frames.specs.Kinds.{kind}
-use Rattle.bridge_frames.specs.Forwards.{lane_number, pick}
+use Rattle.bridge_frames.specs.Forwards.{got_number, lane_number, pick}
+use Rattle.bridge_frames.specs.Greetings.{format}
 
 -- of so many picks there is a first, and its client has been read
 pub record PicksWant (bs : List ℕ) : Type 0 where
@@ -27,10 +28,14 @@ pub record PicksWant (bs : List ℕ) : Type 0 where
 abbrev pub ForwardWants : List ℕ → Type 0
 ForwardWants = After flag (λ more. PicksWant more ⊎ After (listed pick) HasText more)
 
--- Hello and Got want none. A set or a state wants some once something of it has been read, and a message once a client of its picks or
--- its topic has.
+-- after the format and the two numbers, something of the context has been read
+abbrev pub GreetingWants : List ℕ → Type 0
+GreetingWants = After format (After got_number (After got_number contexts.WantsMemory))
+
+-- Got wants none. A set or a state wants some once something of it has been read, a Hello once something of its context has, and a
+-- message once a client of its picks or its topic has.
 abbrev pub BodyWants : Kind → List ℕ → Type 0
-BodyWants kinds.Hello bs = ⊥
+BodyWants kinds.Hello bs = GreetingWants bs
 BodyWants kinds.Delta bs = states.WantsMemory bs
 BodyWants kinds.Know bs = contexts.WantsMemory bs
 BodyWants kinds.Forward bs = After lane_number ForwardWants bs
@@ -54,9 +59,9 @@ pub record WantsMemory (bs : List ℕ) : Type 0 where
   pub wants : ContentWants run
 
 -- ---- copies
--- Hello and Got have nothing that is copied or shared, nor have a Delta of nothing and a Know of no dots
+-- Got has nothing that is copied or shared, nor have a Delta of nothing, and a Hello and a Know of no dots
 abbrev pub CopyWants : FrameBody → Type 0
-CopyWants bodies.Hello = ⊥
+CopyWants (bodies.Hello g) = g.dots ≢ set.empty
 CopyWants (bodies.Delta s) = s ≢ nothing
 CopyWants (bodies.Know dots) = dots ≢ set.empty
 CopyWants (bodies.Forward n f) = Unit {0}

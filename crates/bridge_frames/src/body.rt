@@ -3,13 +3,14 @@ ghost use Rattle.std.specs.Prelude.{◌≡◌, ◌<◌, ◌++◌, ◌^◌, lengt
 ghost use Rattle.mqtt_fields.specs.Reading.{Gives};
 ghost use Rattle.bridge_frames.specs.Forwards.{got_number, lane_number, numbered};
 ghost use Rattle.bridge_frames.specs.Frames as spec;
-ghost use Rattle.bridge_frames.specs.Memory.{BodyWants, CopyWants, ForwardWants};
+ghost use Rattle.bridge_frames.specs.Memory.{BodyWants, CopyWants, ForwardWants, GreetingWants};
 ghost use Rattle.causal_context.specs.Spelling as contexts;
 ghost use Rattle.replica_bytes.specs.Memory as states;
 
 use crate::forward::Forward;
+use crate::greeting::Greeting;
 use crate::kind::Kind;
-use crate::number::LaneNumber;
+use crate::number::{LaneNumber, number_at, put_number};
 use causal_context::Context;
 use mqtt_fields::{FieldFault, NUMBERS_END, NoMemory, put_u64, u64_at};
 use replica_bytes::{read_store, write_store};
@@ -19,8 +20,8 @@ use std::alloc::Global;
 /// What a frame says.
 #[derive(Drop)]
 pub enum FrameBody {
-    /// The first frame of a connection.
-    Hello,
+    /// The first frame of a connection: what its sender says of itself.
+    Hello(Greeting),
     /// A state to merge.
     Delta(ReplicaStore),
     /// The dots that its sender has taken.
@@ -29,19 +30,6 @@ pub enum FrameBody {
     Forward(LaneNumber, Forward),
     /// What has come, up to this number.
     Got(LaneNumber),
-}
-
-// A number below 2^62.
-fn number_at(bytes: &[u8]) -> Result<(u64, &[u8]), FieldFault>
-    ensures exact { Gives (λ x. (x.0, x.1.now)) result (got_number.at bytes.now) }
-    ensures below { IfOk result (λ x. x.0 < 2 ^ 62) }
-    ensures no_memory { IsErrOf result FieldFault.NoMemory → ⊥ }
-{
-    let (number, rest) = u64_at(bytes)?;
-    if number >= NUMBERS_END {
-        return Err(FieldFault::Malformed);
-    }
-    Ok((number, rest))
 }
 
 // The number of a message in a lane, from 1 to 2^62 - 1.
@@ -67,22 +55,14 @@ fn append_forward(number: LaneNumber, forward: &Forward, out: &mut Vec<u8>) -> R
     forward.append(out)
 }
 
-fn append_got(number: LaneNumber, out: &mut Vec<u8>) -> Result<(), NoMemory>
-    ensures ok { OnOk result (out.new.items ≡ out.old.items ++ got_number.bytes number) }
-    ensures spelling { got_number.Fits number }
-    ensures err { OnErr result (out.new.items ≡ out.old.items) }
-{
-    put_u64(number.get(), out)
-}
-
 impl FrameBody {
-    /// An equal body. A message is shared. Of Hello and Got, of a Delta of nothing and of a Know of no dots it takes no memory.
+    /// An equal body. A message is shared. Of Got, of a Delta of nothing, and of a Hello and a Know of no dots it takes no memory.
     pub fn copy(&self, alloc: Global) -> Result<FrameBody, NoMemory>
         ensures ok { IfOk result (λ copy. copy ≡ self.now) }
         ensures memory { OnErr result (CopyWants self.now) }
     {
         match self {
-            FrameBody::Hello => Ok(FrameBody::Hello),
+            FrameBody::Hello(greeting) => Ok(FrameBody::Hello(greeting.copy()?)),
             FrameBody::Delta(state) => Ok(FrameBody::Delta(state.copy()?)),
             FrameBody::Know(dots) => Ok(FrameBody::Know(dots.copy()?)),
             FrameBody::Forward(number, forward) => {
@@ -96,7 +76,7 @@ impl FrameBody {
         ensures { result ≡ spec.kind_of self.now }
     {
         match self {
-            FrameBody::Hello => Kind::Hello,
+            FrameBody::Hello(_) => Kind::Hello,
             FrameBody::Delta(_) => Kind::Delta,
             FrameBody::Know(_) => Kind::Know,
             FrameBody::Forward(_, _) => Kind::Forward,
@@ -114,13 +94,21 @@ impl FrameBody {
         ensures begins { take (length out.old.items) out.new.items ≡ out.old.items }
     {
         match self {
-            FrameBody::Hello => Ok(()),
+            FrameBody::Hello(greeting) => greeting.append(out),
             FrameBody::Delta(state) => write_store(state, out),
             FrameBody::Know(dots) => dots.write(out),
             FrameBody::Forward(number, forward) => append_forward(*number, forward, out),
-            FrameBody::Got(number) => append_got(*number, out),
+            FrameBody::Got(number) => put_number(*number, out),
         }
     }
+}
+
+fn hello_at(alloc: Global, bytes: &[u8]) -> Result<(FrameBody, &[u8]), FieldFault>
+    ensures exact { Gives (λ x. (x.0, x.1.now)) result (spec.hello.at bytes.now) }
+    ensures no_memory { IsErrOf result FieldFault.NoMemory → GreetingWants bytes.now }
+{
+    let (greeting, rest) = Greeting::at(alloc, bytes)?;
+    Ok((FrameBody::Hello(greeting), rest))
 }
 
 fn delta_at(alloc: Global, bytes: &[u8]) -> Result<(FrameBody, &[u8]), FieldFault>
@@ -166,7 +154,7 @@ pub(crate) fn body_at(
     ensures no_memory { IsErrOf result FieldFault.NoMemory → BodyWants kind bytes.now }
 {
     match kind {
-        Kind::Hello => Ok((FrameBody::Hello, bytes)),
+        Kind::Hello => hello_at(alloc, bytes),
         Kind::Delta => delta_at(alloc, bytes),
         Kind::Know => know_at(alloc, bytes),
         Kind::Forward => forward_at(alloc, bytes),

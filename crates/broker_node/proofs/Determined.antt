@@ -21,7 +21,7 @@ use Rattle.node_clients.specs.Moving.{MovesAway}
 use Rattle.broker_node.specs.Moving.{AreAway, TakesNewerTable, SendsAway, TakesTable}
 use Rattle.node_work.specs.Acts.{Moved, Began, Bridge, Connection, Merged, Store}
 use Rattle.node_work.specs.Doings.{GivesBody, GivesFrame, Misses, OpensConnection, Removes, TakesMoment, is_small}
-use Rattle.node_work.specs.Held.Bridge.{Believed, Gave, Got as GotBy, Left_out}
+use Rattle.node_work.specs.Held.Bridge.{Believed, Greeted, Gave, Got as GotBy, Left_out, hello_to}
 use Rattle.node_work.specs.Held.Connections.{Opened}
 use Rattle.node_work.specs.View.{HeldView}
 use Rattle.node_work.specs.Working.{Returns, Acting, Each, Then}
@@ -50,7 +50,7 @@ gives_determined peer body = looks_determined _ _ gives_frame_determined
 
 greets_determined : (peer : ℕ) → Determined (Greets peer)
 greets_determined peer =
-    looks_determined _ _ (λ other. if_determined other (GivesBody peer (λ h. Hello)) (Returns tt) (gives_determined peer (λ h. Hello)) (returns_determined tt))
+    looks_determined _ _ (λ other. if_determined other (GivesBody peer (hello_to peer)) (Returns tt) (gives_determined peer (hello_to peer)) (returns_determined tt))
 
 shipped_alone : (peer : ℕ) → IsAlone (AreShipped peer)
 shipped_alone peer p h None None sound a b = refl
@@ -93,7 +93,7 @@ takes_message_determined from number m =
     (λ _. gives_determined from (λ h. Got (lane_to h.bridge from).took))
 
 takes_determined : (from : ℕ) (body : FrameBody) → Determined (TakesBody from body)
-takes_determined from Hello = tells_taken_determined from
+takes_determined from (Hello g) = then_determined _ _ (acting_determined (λ p h. Bridge (Greeted from g))) (λ _. tells_taken_determined from)
 takes_determined from (Delta s) = merges_determined from s
 takes_determined from (Know dots) = acting_determined (λ p h. Bridge (Believed from dots))
 takes_determined from (Forward number m) = takes_message_determined from number m

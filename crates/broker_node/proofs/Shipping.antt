@@ -58,7 +58,7 @@ later_own p h peer after =
 
 -- what a frame that goes out leaves as it was
 carries_still : (h k : HeldView) (to : ℕ) (body : FrameBody) → k.bridge ≡ h.bridge → k.store ≡ h.store → Carries h to body → Carries k to body
-carries_still h k to bodies.Hello bridge store d = tt
+carries_still h k to (bodies.Hello g) bridge store d = d ∙ ap (λ b. record { gone = (lane_to b to).gone; took = (lane_to b to).took; dots = h.store.taken }) (sym bridge) ∙ ap (λ (s : State). record { gone = (lane_to k.bridge to).gone; took = (lane_to k.bridge to).took; dots = s.taken }) (sym store)
 carries_still h k to (bodies.Delta t) bridge store d = subst (λ b. IsToShip to b k.store (Some t)) (sym bridge) (subst (λ s. IsToShip to h.bridge s (Some t)) (sym store) d)
 carries_still h k to (bodies.Know dots) bridge store d = d ∙ ap (λ (s : State). s.taken) (sym store)
 carries_still h k to (bodies.Forward number m) bridge store d = subst (λ b. Waits (lane_to b to) number m) (sym bridge) d

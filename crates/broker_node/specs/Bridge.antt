@@ -6,6 +6,7 @@ use Rattle.bridge_frames.specs.declared.body.FrameBody.{FrameBody}
 use Rattle.bridge_frames.specs.declared.body.FrameBody.TheVariants.{Hello, Delta, Know, Forward, Got}
 use Rattle.bridge_frames.specs.declared.forward.Forward.{Forward as Message}
 use Rattle.bridge_frames.specs.declared.frame.BridgeFrame.{BridgeFrame}
+use Rattle.bridge_frames.specs.declared.greeting.Greeting.{Greeting}
 use Rattle.bridge_frames.specs.Frames.{frame_in}
 use Rattle.node_bridge.specs.View.{IsToShip, is_next, lane_to}
 use Rattle.replica_store.specs.States.{State}
@@ -13,16 +14,16 @@ use Rattle.node_work.specs.declared.counts.Missed.TheVariants.{BadFrame}
 use Rattle.node_work.specs.Acts.{Store, Merged, Bridge}
 use Rattle.node_work.specs.Doings.{GivesBody, GivesFrame, Misses}
 use Rattle.node_work.specs.Frames.{is_for_node, is_other}
-use Rattle.node_work.specs.Held.Bridge.{Believed, Got as GotBy}
+use Rattle.node_work.specs.Held.Bridge.{Believed, Greeted, Got as GotBy, hello_to}
 use Rattle.node_work.specs.View.{Place, HeldView}
 use Rattle.node_work.specs.Working.{Doing, Returns, Acting, Looks, FindsWhere, If, Then, Each}
 use Rattle.node_clients.specs.Passing.{TakesForward}
 
 -- ---- of its own accord
 
--- a new link to another node of the cluster begins with Hello
+-- a new link to another node of the cluster begins with what this node says of itself
 abbrev pub Greets : ℕ → Option (Unit {0}) → Doing
-Greets peer = Looks (λ p h. is_other p peer) (λ other. If other (GivesBody peer (λ h. Hello)) (Returns tt))
+Greets peer = Looks (λ p h. is_other p peer) (λ other. If other (GivesBody peer (hello_to peer)) (Returns tt))
 
 -- what another node may lack of the state goes to it, if there is any
 abbrev pub AreShipped : ℕ → Place → HeldView → Option State → Type 0
@@ -72,8 +73,12 @@ TakesNext from number m = Looks (λ p h. is_next from number h.bridge) (λ next.
 abbrev pub TakesMessage : ℕ → ℕ → Message → Option (Unit {0}) → Doing
 TakesMessage from number m = Then (TakesNext from number m) (λ _. GivesBody from (λ h. Got (lane_to h.bridge from).took))
 
+-- what another node says that it has stands in place of what was known of it, and is answered with the dots that are taken here
+abbrev pub TakesHello : ℕ → Greeting → Option (Unit {0}) → Doing
+TakesHello from g = Then (Acting (λ p h. Bridge (Greeted from g))) (λ _. TellsTaken from)
+
 abbrev pub TakesBody : ℕ → FrameBody → Option (Unit {0}) → Doing
-TakesBody from Hello = TellsTaken from
+TakesBody from (Hello g) = TakesHello from g
 TakesBody from (Delta s) = Merges from s
 TakesBody from (Know dots) = Acting (λ p h. Bridge (Believed from dots))
 TakesBody from (Forward number m) = TakesMessage from number m

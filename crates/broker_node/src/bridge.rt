@@ -1,16 +1,16 @@
 //! What nodes tell one another.
 
-ghost use Rattle.std.specs.Prelude.{◌≡◌, ◌≢◌, false, Ok};
-ghost use Rattle.broker_node.specs.Bridge.{Greets, Ships, ShipsLater, ShipsMore, ShipsState, ShipsMessages, Hears, HearsFrame, TakesBody, TellsTaken, Merges, TakesMessage, TakesNext};
+ghost use Rattle.std.specs.Prelude.{◌≡◌, ◌≢◌, false, Ok, IfErr, IfOk};
+ghost use Rattle.broker_node.specs.Bridge.{Greets, Ships, ShipsLater, ShipsMore, ShipsState, ShipsMessages, Hears, HearsFrame, TakesBody, TakesHello, TellsTaken, Merges, TakesMessage, TakesNext};
 ghost use Rattle.node_bridge.specs.View.{lane_to};
 ghost use Rattle.node_work.specs.Doings.{GivesBody};
 ghost use Rattle.node_work.specs.Frames.{is_for_node, is_other, names_nodes};
-ghost use Rattle.node_work.specs.Held.Bridge.{Carries};
+ghost use Rattle.node_work.specs.Held.Bridge.{Carries, greeting_to, hello_to};
 ghost use Rattle.node_work.specs.View.{HeldView};
 ghost use Rattle.node_work.specs.Working.{ComesTo};
 ghost use Rattle.std.specs.Prelude.{Some};
 
-use bridge_frames::{BridgeFrame, Forward, FrameBody, LaneNumber, LinkFault};
+use bridge_frames::{BridgeFrame, Forward, FrameBody, Greeting, LaneNumber, LinkFault};
 use node_clients::take_forward;
 use node_rows::{are_dots_among, is_state_among};
 use node_work::{Missed, NodeFault, Work};
@@ -35,7 +35,26 @@ fn give(work: &mut Work, peer: u16, body: FrameBody) -> Result<(), NodeFault>
     })
 }
 
-/// Begins a new link to another node of the cluster.
+/// What the node says of itself to another one.
+fn greeting_to(work: &Work, to: u16) -> Result<Greeting, NodeFault>
+    ensures ok { IfOk result (λ g. g ≡ greeting_to to work.now.held) }
+    ensures fault { IfErr result (λ e. e ≡ NodeFault.NoMemory) }
+{
+    let bridge = work.held().bridge();
+    let gone = bridge.last_gone(to);
+    let took = bridge.last_taken(to);
+    let dots = work.held().store().taken().copy()?;
+    Ok(Greeting { gone, took, dots })
+}
+
+fn say_hello(work: &mut Work, to: u16) -> Result<(), NodeFault>
+    ensures { ComesTo (λ x. x) result work.old work.new (GivesBody to (hello_to to)) }
+{
+    let greeting = greeting_to(work, to)?;
+    give(work, to, FrameBody::Hello(greeting))
+}
+
+/// Begins a new link to another node of the cluster: says what this node has.
 pub fn greet(work: &mut Work, peer: u16) -> Result<(), NodeFault>
     ensures idle { is_other work.old.place peer ≡ false → (result ≡ Ok tt) × (work.new ≡ work.old) }
     ensures comes { ComesTo (λ x. x) result work.old work.new (Greets peer) }
@@ -43,7 +62,7 @@ pub fn greet(work: &mut Work, peer: u16) -> Result<(), NodeFault>
     if !is_other(work, peer) {
         return Ok(());
     }
-    give(work, peer, FrameBody::Hello)
+    say_hello(work, peer)
 }
 
 /// Sends another node of the cluster what it may lack: of the state, and then of the messages that wait for it.
@@ -121,7 +140,7 @@ fn names_nodes(nodes: u16, body: &FrameBody) -> bool
     match body {
         FrameBody::Delta(state) => is_state_among(nodes, state),
         FrameBody::Know(dots) => are_dots_among(nodes, dots),
-        FrameBody::Hello => true,
+        FrameBody::Hello(greeting) => are_dots_among(nodes, &greeting.dots),
         FrameBody::Forward(..) => true,
         FrameBody::Got(_) => true,
     }
@@ -150,12 +169,20 @@ fn take(work: &mut Work, from: u16, body: FrameBody) -> Result<(), NodeFault>
     ensures { ComesTo (λ x. x) result work.old work.new (TakesBody from body) }
 {
     match body {
-        FrameBody::Hello => tell_taken(work, from),
+        FrameBody::Hello(greeting) => take_hello(work, from, &greeting),
         FrameBody::Delta(state) => merge(work, from, state),
         FrameBody::Know(dots) => work.believe(from, &dots),
         FrameBody::Forward(number, message) => take_message(work, from, number, &message),
         FrameBody::Got(number) => work.got(from, number),
     }
+}
+
+/// Takes what another node says of itself, and answers with the dots that are taken now.
+fn take_hello(work: &mut Work, from: u16, greeting: &Greeting) -> Result<(), NodeFault>
+    ensures { ComesTo (λ x. x) result work.old work.new (TakesHello from greeting.now) }
+{
+    work.greet(from, greeting)?;
+    tell_taken(work, from)
 }
 
 /// Tells another node which dots are taken now.

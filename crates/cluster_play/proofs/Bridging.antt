@@ -9,13 +9,14 @@ use Rattle.std.proofs.lemmas.List.{length-drop}
 use Rattle.bridge_deltas.specs.declared.offer.Offer.TheVariants.{Queued, Full, AtEnd}
 use Rattle.bridge_deltas.specs.Lane.{next_number, offer_of}
 use Rattle.bridge_frames.specs.declared.forward.Forward.{Forward}
+use Rattle.bridge_frames.specs.declared.greeting.Greeting.{Greeting}
 use Rattle.causal_context.specs.Dots.{Dot, Dots, dot_cmp, dot_cmp_total}
 use Rattle.bridge_lanes.specs.Rows.{Messages, last_put}
 use Rattle.bridge_lanes.specs.Lanes.{Lanes, Waits, lane_of, new_lane, new_lanes, up_to, with_got, with_put, with_took}
-use Rattle.node_bridge.specs.View.{BridgeView, belief_of, believes, has_lanes, keeps, lane_to, offer_to, with_lane, woken_bridge}
+use Rattle.node_bridge.specs.View.{BridgeView, belief_of, believes, greets, has_lanes, keeps, lane_to, offer_to, with_lane, woken_bridge}
 use Rattle.replica_store.specs.States.{State}
 use Rattle.node_work.specs.Acts.{Act, MomentTaken, Began, Moved, Store, Connection, Session, Bridge, Out, Named, Acknowledged, Passed, Dropped, Made, Merged, Does, Runs, gather, heard_in}
-use Rattle.node_work.specs.Held.Bridge.{BridgeAct, Put, Took, Got, Believed, Gave, Left_out, MayBridge, bridged, heard_of}
+use Rattle.node_work.specs.Held.Bridge.{BridgeAct, Put, Took, Got, Believed, Greeted, Gave, Left_out, MayBridge, bridged, heard_of}
 use Rattle.node_work.specs.Held.Connections.{ConnectionAct, Opened, Fed, Accepted, Roomed, Closed, after_connection_act}
 use Rattle.node_work.specs.Held.Sessions.{SessionAct, Begun, Called, Over, called}
 use Rattle.node_work.specs.View.{Place, HeldView}
@@ -35,6 +36,7 @@ IsSo took (Put peer m) = Unit {0}
 IsSo took (Took peer number m copies lost) = Unit {0}
 IsSo took (Got peer number) = Unit {0}
 IsSo took (Believed peer dots) = (d : Dot) → set.contains dots d ≡ true → took peer d ≡ true
+IsSo took (Greeted peer g) = (d : Dot) → set.contains g.dots d ≡ true → took peer d ≡ true
 IsSo took (Gave f) = Unit {0}
 IsSo took (Left_out what) = Unit {0}
 
@@ -119,6 +121,16 @@ module _ (count : ℕ) (took : ℕ → Dot → Bool) where
     ];
   }
 
+  greets_kept : (b : BridgeView) (peer : ℕ) (g : Greeting) → IsKept count took b → ((d : Dot) → set.contains g.dots d ≡ true → took peer d ≡ true) → IsKept count took (greets peer g b)
+  greets_kept b peer g k so = record {
+    lanes = k.lanes;
+    below = k.below;
+    beliefs = λ j d h. elim (get_changed b.beliefs peer j g.dots set.empty) [
+      | inl e ↦ subst (λ i. took i d ≡ true) e.0 (so d (sym (ap (λ (s : Dots). set.contains s d) e.1) ∙ h))
+      | inr e ↦ k.beliefs j d (sym (ap (λ (s : Dots). set.contains s d) e) ∙ h)
+    ];
+  }
+
   keeps_kept : (b : BridgeView) (d : State) → IsKept count took b → IsKept count took (keeps d b)
   keeps_kept b d k = record { lanes = k.lanes; below = k.below; beliefs = k.beliefs }
 
@@ -144,6 +156,7 @@ module _ (count : ℕ) (took : ℕ → Dot → Bool) where
   bridge_kept p h (Got peer number) k may so =
       with_lane_kept h.bridge peer (with_got number (lane_to h.bridge peer)) k (subst (λ n. n < 2 ^ 62) (sym (got_same (lane_to h.bridge peer) number)) (k.below peer))
   bridge_kept p h (Believed peer dots) k may so = believes_kept h.bridge peer dots k so.0
+  bridge_kept p h (Greeted peer g) k may so = greets_kept h.bridge peer g k so.0
   bridge_kept p h (Gave f) k may so = k
   bridge_kept p h (Left_out what) k may so = k
 

@@ -45,7 +45,7 @@ brings p w e bytes known =
 
 module _ (p : Past) (w : World) (e : Explains p w) where
   all_in : (b : FrameBody) → ((t : State) → b ≡ Delta t → Sound p.ops t) → AllSound p.ops (states_in b)
-  all_in Hello h = tt
+  all_in (Hello g) h = tt
   all_in (Delta t) h = (h t refl, tt)
   all_in (Know dots) h = tt
   all_in (Forward number m) h = tt
@@ -79,7 +79,7 @@ module _ (p : Past) (w : World) (e : Explains p w) where
   none_so bs is = subst (AreSo p.took) (sym is) tt
 
   so_in : (from : ℕ) (b : FrameBody) (bs : List BridgeAct) → ((d : Dot) → set.contains (dots_in b) d ≡ true → p.took from d ≡ true) → IsHeardOf from b bs → AreSo p.took bs
-  so_in from Hello bs told is = none_so bs is
+  so_in from (Hello g) bs told is = subst (AreSo p.took) (sym is) (told, tt)
   so_in from (Delta t) bs told is = none_so bs is
   so_in from (Know dots) bs told is = subst (AreSo p.took) (sym is) (told, tt)
   so_in from (Forward number m) bs told (inl is) = none_so bs is

@@ -10,7 +10,7 @@ use Rattle.node_work.specs.declared.frame.Frame.{Frame}
 use Rattle.node_work.specs.declared.outcome.Output.{Output}
 use Rattle.node_work.specs.declared.outcome.Output.TheVariants.{Send, Close, Frame as Release}
 use Rattle.node_work.specs.Acts.{Act, MomentTaken, Began, Moved, Store, Connection, Session, Bridge, Out, Named, Acknowledged, Passed, Dropped, Runs, gather, output_in}
-use Rattle.node_work.specs.Held.Bridge.{Put, Took, Got, Believed, Gave, Left_out, written_frame}
+use Rattle.node_work.specs.Held.Bridge.{Put, Took, Got, Believed, Greeted, Gave, Left_out, written_frame}
 use Rattle.node_work.specs.Held.Sessions.{SessionAct, Begun, Called, Over, outputs_on, end_outputs, packet_output, session_outputs}
 use Rattle.node_work.specs.View.{Place, HeldView}
 use Rattle.cluster_play.specs.Worlds.{frames_in}
@@ -60,6 +60,7 @@ given_out p (Bridge (Put peer m) ∷ acts) h h' r k sent e = after_act (Bridge (
 given_out p (Bridge (Took peer number m copies lost) ∷ acts) h h' r k sent e = after_act (Bridge (Took peer number m copies lost)) acts sent (given_out p acts r.0 h' r.2 k sent e)
 given_out p (Bridge (Got peer number) ∷ acts) h h' r k sent e = after_act (Bridge (Got peer number)) acts sent (given_out p acts r.0 h' r.2 k sent e)
 given_out p (Bridge (Believed peer dots) ∷ acts) h h' r k sent e = after_act (Bridge (Believed peer dots)) acts sent (given_out p acts r.0 h' r.2 k sent e)
+given_out p (Bridge (Greeted peer g) ∷ acts) h h' r k sent e = after_act (Bridge (Greeted peer g)) acts sent (given_out p acts r.0 h' r.2 k sent e)
 given_out p (Bridge (Gave f) ∷ acts) h h' r zero sent e = record { frame = f; is = sym (some_is e); before = []; after = acts; acts_are = refl }
 given_out p (Bridge (Gave f) ∷ acts) h h' r (suc k) sent e = after_act (Bridge (Gave f)) acts sent (given_out p acts r.0 h' r.2 k sent e)
 given_out p (Bridge (Left_out what) ∷ acts) h h' r k sent e = after_act (Bridge (Left_out what)) acts sent (given_out p acts r.0 h' r.2 k sent e)

@@ -12,7 +12,7 @@ use Rattle.replica_store.specs.Making.{next_dot}
 use Rattle.replica_store.proofs.Unions.{among_cases}
 use Rattle.node_bridge.specs.View.{keeps}
 use Rattle.node_work.specs.Acts.{Act, MomentTaken, Began, Moved, Store, Connection, Session, Bridge, Out, Named, Acknowledged, Passed, Dropped, Made, Merged, Does, Runs, gather, op_in, merge_in}
-use Rattle.node_work.specs.Held.Bridge.{BridgeAct, Put, Took, Got, Believed, Gave, Left_out, bridged}
+use Rattle.node_work.specs.Held.Bridge.{BridgeAct, Put, Took, Got, Believed, Greeted, Gave, Left_out, bridged}
 use Rattle.node_work.specs.Held.Connections.{ConnectionAct, Opened, Fed, Accepted, Roomed, Closed, after_connection_act}
 use Rattle.node_work.specs.Held.Sessions.{SessionAct, Begun, Called, Over, called}
 use Rattle.node_work.specs.View.{Place, HeldView}
@@ -65,6 +65,7 @@ bridge_leaves h (Put peer m) = record { store = refl; deltas = refl }
 bridge_leaves h (Took peer number m copies lost) = record { store = refl; deltas = refl }
 bridge_leaves h (Got peer number) = record { store = refl; deltas = refl }
 bridge_leaves h (Believed peer dots) = record { store = refl; deltas = refl }
+bridge_leaves h (Greeted peer g) = record { store = refl; deltas = refl }
 bridge_leaves h (Gave f) = leaves_itself h
 bridge_leaves h (Left_out what) = record { store = refl; deltas = refl }
 

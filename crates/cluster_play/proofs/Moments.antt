@@ -1,7 +1,7 @@
 -- The moment of a node is the greatest that it was handed since it was last opened.
 use Rattle.std.proofs.Common.{◌≡◌, max, List, [], ◌∷◌, refl, ap, ◌∙◌, arith}
 use Rattle.node_work.specs.Acts.{Act, MomentTaken, Began, Moved, Store, Connection, Session, Bridge, Out, Named, Acknowledged, Passed, Dropped, next}
-use Rattle.node_work.specs.Held.Bridge.{BridgeAct, Put, Took, Got, Believed, Gave, Left_out, bridged}
+use Rattle.node_work.specs.Held.Bridge.{BridgeAct, Put, Took, Got, Believed, Greeted, Gave, Left_out, bridged}
 use Rattle.node_work.specs.Held.Connections.{ConnectionAct, Opened, Fed, Accepted, Roomed, Closed, after_connection_act}
 use Rattle.node_work.specs.Held.Sessions.{SessionAct, Begun, Called, Over, called}
 use Rattle.node_work.specs.View.{Place, HeldView}
@@ -25,6 +25,7 @@ bridge_moment h (Put peer m) = refl
 bridge_moment h (Took peer number m copies lost) = refl
 bridge_moment h (Got peer number) = refl
 bridge_moment h (Believed peer dots) = refl
+bridge_moment h (Greeted peer g) = refl
 bridge_moment h (Gave f) = refl
 bridge_moment h (Left_out what) = refl
 

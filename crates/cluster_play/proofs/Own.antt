@@ -9,7 +9,7 @@ use Rattle.bridge_lanes.specs.Lanes.{new_lane, up_to, with_got, with_put, with_t
 use Rattle.node_bridge.specs.View.{lane_to}
 use Rattle.node_rows.specs.Reading.{HasNoLane}
 use Rattle.node_work.specs.Acts.{Act, MomentTaken, Began, Moved, Store, Connection, Session, Bridge, Out, Named, Acknowledged, Passed, Dropped, Made, Merged, Allowed, next}
-use Rattle.node_work.specs.Held.Bridge.{BridgeAct, Put, Took, Got, Believed, Gave, Left_out, MayBridge, bridged}
+use Rattle.node_work.specs.Held.Bridge.{BridgeAct, Put, Took, Got, Believed, Greeted, Gave, Left_out, MayBridge, bridged}
 use Rattle.node_work.specs.Held.Connections.{Opened, Fed, Accepted, Roomed, Closed}
 use Rattle.node_work.specs.Held.Sessions.{Begun, Called, Over}
 use Rattle.node_work.specs.View.{Place, HeldView, fresh}
@@ -32,6 +32,7 @@ module _ (p : Place) where
     | inr e ↦ e ∙ none
   ]
   bridged_none h (Believed peer dots) none may = none
+  bridged_none h (Greeted peer g) none may = none
   bridged_none h (Gave f) none may = none
   bridged_none h (Left_out what) none may = none
 

@@ -42,7 +42,7 @@ use Rattle.bridge_routes.specs.declared.destinations.Route.TheVariants.{Nothing,
 use Rattle.node_bridge.specs.View.{lane_to, offer_to}
 use Rattle.node_work.specs.declared.counts.Missed.{Missed}
 use Rattle.node_work.specs.declared.counts.Missed.TheVariants.{LaneFull, BadFrame, FrameTooLarge, TableRefused}
-use Rattle.node_work.specs.Held.Bridge.{BridgeAct, Put as PutIn, Took, Got as GotBy, Believed, Gave, Left_out}
+use Rattle.node_work.specs.Held.Bridge.{BridgeAct, Put as PutIn, Took, Got as GotBy, Believed, Greeted, Gave, Left_out, hello_to}
 use Rattle.node_work.specs.Acts.{Act, MomentTaken, Began, Moved, Store, Connection, Session, Bridge, Out, Named, Acknowledged, Passed, Dropped, Made, Merged, Runs}
 use Rattle.node_work.specs.Calling.{CallsAt, Calls, Queues, QueuesOne}
 use Rattle.node_work.specs.Doings.{TakesMoment, MakesSubscribe, MakesRemove, MakesRemoveBelow, Removes, RemovesBelow, Sends, Disconnects, Redirects, Misses, PutsInLaneBy, Routes, RoutesBy, GivesBody, GivesFrame, is_small}
@@ -662,7 +662,8 @@ takes_next from number m =
     (λ next. k_if Answered answered next (passing.TakesForward from number m) (Returns tt) (takes_forward from number m) (k_returns Answered answered tt))
 
 takes_body : (from : ℕ) (body : FrameBody) → Keeps Answered (bridge.TakesBody from body)
-takes_body from bodies.Hello = gives from (λ h. bodies.Know h.store.taken)
+takes_body from (bodies.Hello g) =
+    k_then Answered answered (Acting (λ p h. Bridge (Greeted from g))) (λ _. bridge.TellsTaken from) (bridge_act (λ p h. Greeted from g)) (λ _. gives from (λ h. bodies.Know h.store.taken))
 takes_body from (bodies.Delta s) =
     k_then Answered answered (Acting (λ p h. Store (Merged s))) (λ _. bridge.TellsTaken from) (k_acting Answered answered (λ p h. Store (Merged s)) (λ p h. (tt, tt))) (λ _. gives from (λ h. bodies.Know h.store.taken))
 takes_body from (bodies.Know dots) = bridge_act (λ p h. Believed from dots)
@@ -678,8 +679,8 @@ hears_frame (Some frame) =
 
 greets : (peer : ℕ) → Keeps Answered (bridge.Greets peer)
 greets peer =
-    k_looks Answered answered (λ p h. is_other p peer) (λ other. If other (GivesBody peer (λ h. bodies.Hello)) (Returns tt))
-    (λ other. k_if Answered answered other (GivesBody peer (λ h. bodies.Hello)) (Returns tt) (gives peer (λ h. bodies.Hello)) (k_returns Answered answered tt))
+    k_looks Answered answered (λ p h. is_other p peer) (λ other. If other (GivesBody peer (hello_to peer)) (Returns tt))
+    (λ other. k_if Answered answered other (GivesBody peer (hello_to peer)) (Returns tt) (gives peer (hello_to peer)) (k_returns Answered answered tt))
 
 gives_state : (peer : ℕ) (s : Option State) → Keeps Answered (bridge.GivesState peer s)
 gives_state peer None = k_returns Answered answered _

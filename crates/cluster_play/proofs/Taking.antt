@@ -110,7 +110,7 @@ pub record FrameLists (id : ℕ) (e : EventKind) (d : Dot) : Type 0 where
   pub lists : set.contains state.taken d ≡ true
 
 body_lists : (b : FrameBody) (d : Dot) → any_lists (states_in b) d ≡ true → (t : State) × (b ≡ Delta t) × (set.contains t.taken d ≡ true)
-body_lists Hello d h = cc
+body_lists (Hello g) d h = cc
 body_lists (Delta t) d h = elim (or_true (set.contains t.taken d) false h) [ inl a ↦ (t, refl, a) | inr b ↦ cc ]
 body_lists (Know dots) d h = cc
 body_lists (Forward number m) d h = cc

@@ -4,6 +4,7 @@ use Rattle.std.specs.FinSet as set
 use Rattle.bridge_frames.specs.declared.body.FrameBody.{FrameBody}
 use Rattle.bridge_frames.specs.declared.body.FrameBody.TheVariants.{Hello, Delta, Know, Forward, Got}
 use Rattle.bridge_frames.specs.declared.frame.BridgeFrame.{BridgeFrame}
+use Rattle.bridge_frames.specs.declared.greeting.Greeting.{Greeting}
 use Rattle.bridge_frames.specs.Frames.{HasSpelling, IsPlain as CanGo, frame_in}
 use Rattle.bridge_frames.proofs.FrameLaws.{read_again}
 use Rattle.causal_context.specs.Dots.{Dot, Dots, dot_cmp}
@@ -19,7 +20,7 @@ use Rattle.cluster_play.proofs.Sound.{Sound, lists}
 
 -- the dots that a frame lists as taken
 abbrev pub dots_in : FrameBody → Dots
-dots_in Hello = set.empty
+dots_in (Hello g) = g.dots
 dots_in (Delta s) = s.taken
 dots_in (Know dots) = dots
 dots_in (Forward number m) = set.empty
@@ -55,7 +56,7 @@ module _ (count i : ℕ) (ms : List Operation) (took : ℕ → Dot → Bool) (h 
   part_shipped to s c = shipped_part ms h.store g.grown.own_dots _ h.bridge.deltas s g.grown.sound g.deltas c.2
 
   can_go : (to : ℕ) (b : FrameBody) → Carries h to b → CanGo b
-  can_go to Hello c = tt
+  can_go to (Hello g) c = tt
   can_go to (Delta s) c = tt
   can_go to (Know dots) c = tt
   can_go to (Forward number m) c = waits_numbered count took h.bridge to number m k c
@@ -68,7 +69,7 @@ module _ (count i : ℕ) (ms : List Operation) (took : ℕ → Dot → Bool) (h 
   none_in d e = absurd (let no : false ≡ true = sym (set.contains-empty dot_cmp d) ∙ e in cc)
 
   listed_in : (to : ℕ) (b : FrameBody) → Carries h to b → (d : Dot) → set.contains (dots_in b) d ≡ true → set.contains h.store.taken d ≡ true
-  listed_in to Hello c d e = none_in d e
+  listed_in to (Hello g) c d e = sym (ap (λ (x : Greeting). set.contains x.dots d) c) ∙ e
   listed_in to (Delta s) c d e = (part_shipped to s c).within d e
   listed_in to (Know dots) c d e = sym (ap (λ (t : Dots). set.contains t d) c) ∙ e
   listed_in to (Forward number m) c d e = none_in d e

@@ -26,7 +26,7 @@ use Rattle.node_rows.specs.Reading.{IsLasting}
 use Rattle.node_rows.specs.Rows.{Lasting}
 use Rattle.node_rows.specs.Sessions.{opened_seat}
 use Rattle.node_work.specs.Acts.{Act, Connection, Session, Bridge, next}
-use Rattle.node_work.specs.Held.Bridge.{BridgeAct, Put, Took, Got, Believed, Gave, Left_out, bridged}
+use Rattle.node_work.specs.Held.Bridge.{BridgeAct, Put, Took, Got, Believed, Greeted, Gave, Left_out, bridged}
 use Rattle.node_work.specs.Held.Connections.{ConnectionAct, Opened, Fed, Accepted, Roomed, Closed, after_connection_act}
 use Rattle.node_work.specs.Held.Sessions.{Begun, Called, Over}
 use Rattle.node_work.specs.Lasting.{lasting, IsWoken}
@@ -77,6 +77,7 @@ bridge_same h (Put peer m) = refl
 bridge_same h (Took peer number m copies lost) = refl
 bridge_same h (Got peer number) = refl
 bridge_same h (Believed peer dots) = refl
+bridge_same h (Greeted peer g) = refl
 bridge_same h (Gave f) = refl
 bridge_same h (Left_out what) = refl
 

@@ -23,7 +23,7 @@ use Rattle.node_work.specs.declared.outcome.Output.TheVariants.{Send, Close, Fra
 use Rattle.node_work.specs.Acts.{Act, StoreAct, MomentTaken, Began, Moved, Store, Connection, Session, Bridge, Out, Named, Acknowledged, Passed, Dropped, Runs, gather, next, output_in}
 use Rattle.node_work.specs.Doings.{is_small}
 use Rattle.node_work.specs.Frames.{is_for_node, is_other}
-use Rattle.node_work.specs.Held.Bridge.{BridgeAct, Put, Took, Got, Believed, Gave, Left_out}
+use Rattle.node_work.specs.Held.Bridge.{BridgeAct, Put, Took, Got, Believed, Greeted, Gave, Left_out, hello_to}
 use Rattle.node_work.specs.Held.Connections.{ConnectionTable, Opened, Fed, Roomed, Accepted, Closed, changed_at, client_at, is_open, with_client, with_piece, with_room}
 use Rattle.node_work.specs.Held.Feeding.{cut_of}
 use Rattle.node_work.specs.Held.Sessions.{SessionStep, Begun, Called, Over, connection_at, end_outputs, has_session, outputs_on, packet_output, takes_packet}
@@ -118,7 +118,7 @@ lane_if true h from number m acts d = tidy_is acts _ d.is (tt, plain_tidy d.call
 lane_if false h from number m acts d = tidy_none acts d
 
 brought_tidy : (h : HeldView) (from : ℕ) (body : FrameBody) (acts : List Act) → IsBrought h from body acts → Tidy acts
-brought_tidy h from Hello acts d = tidy_none acts d
+brought_tidy h from (Hello g) acts d = tidy_is acts _ d (tt, tt)
 brought_tidy h from (Delta s) acts d = tidy_is acts _ d (tt, tt)
 brought_tidy h from (Know dots) acts d = tidy_is acts _ d (tt, tt)
 brought_tidy h from (Forwards number m) acts d = lane_if (is_next from number h.bridge) h from number m acts d
@@ -215,7 +215,7 @@ answers_tidy (kinds.Room c bytes) p h h' acts d runs s = all_tidy acts (room_if 
 answers_tidy (kinds.Piece c bytes) p h h' acts d runs s = all_tidy acts (bytes_tidy (map.get h.connections c) p h h' c bytes acts d runs (s c))
 answers_tidy (kinds.Evict client) p h h' acts d runs s = all_tidy acts (evict_if (any_of client None h.store.subscriptions) _ acts d)
 answers_tidy (kinds.Frame bytes) p h h' acts d runs s = all_tidy acts (frame_tidy (frame_in bytes) p h acts d)
-answers_tidy (kinds.Linked peer) p h h' acts d runs s = all_tidy acts (greets_if (is_other p peer) (frame_to p peer Hello ∷ []) acts d)
+answers_tidy (kinds.Linked peer) p h h' acts d runs s = all_tidy acts (greets_if (is_other p peer) (frame_to p peer (hello_to peer h) ∷ []) acts d)
 answers_tidy (kinds.Ship peer) p h h' acts d runs s = all_tidy acts (ships_if (is_other p peer) p h peer acts d)
 answers_tidy (kinds.More peer after) p h h' acts d runs s = all_tidy acts (more_if (is_other p peer) p h peer after acts d)
 answers_tidy (kinds.Table homes) p h h' acts d runs s = all_tidy acts (table_if (is_newer_table homes p h) p h homes acts _ d)
@@ -340,6 +340,7 @@ bridge_not c (Put peer m) = tt
 bridge_not c (Took peer number m copies lost) = tt
 bridge_not c (Got peer number) = tt
 bridge_not c (Believed peer dots) = tt
+bridge_not c (Greeted peer g) = tt
 bridge_not c (Gave f) = ((λ x. x), tt)
 bridge_not c (Left_out what) = tt
 
@@ -384,6 +385,7 @@ bridge_shut c h (Put peer m) shut = shut
 bridge_shut c h (Took peer number m copies lost) shut = shut
 bridge_shut c h (Got peer number) shut = shut
 bridge_shut c h (Believed peer dots) shut = shut
+bridge_shut c h (Greeted peer g) shut = shut
 bridge_shut c h (Gave f) shut = shut
 bridge_shut c h (Left_out what) shut = shut
 
@@ -470,6 +472,7 @@ module _ (o : Occasion) (p : Place) (h : HeldView) (front : List Act) (right : (
   bridge_outputs (Took peer number m copies lost) rest ends = ends
   bridge_outputs (Got peer number) rest ends = ends
   bridge_outputs (Believed peer dots) rest ends = ends
+  bridge_outputs (Greeted peer g) rest ends = ends
   bridge_outputs (Gave f) rest ends = (tt, ends)
   bridge_outputs (Left_out what) rest ends = ends
 

@@ -21,7 +21,7 @@ use Rattle.session_table.specs.Seats.{Seat}
 use Rattle.node_work.specs.Acts.{Act, MomentTaken, Began, Moved, Store, Connection, Session, Bridge, Out, Named, Acknowledged, Passed, Dropped, Made, Merged, Allowed, Runs, IsMade}
 use Rattle.node_work.specs.Calling.{CallsAt}
 use Rattle.node_work.specs.Doings.{MakesRemove, MakesRemoveBelow, Removes, RemovesBelow, PutsInLaneBy, TakesMoment}
-use Rattle.node_work.specs.Held.Bridge.{BridgeAct, Put as Join, Took, Got, Believed, Gave, Left_out, MayBridge}
+use Rattle.node_work.specs.Held.Bridge.{BridgeAct, Put as Join, Took, Got, Believed, Greeted, Gave, Left_out, MayBridge}
 use Rattle.node_work.specs.Held.Making.{number_at_end, put_at_end, removal, removal_below}
 use Rattle.node_work.specs.Held.Sessions.{SessionAct, SessionStep, Begun, Called, Over, IsCall, seat_at}
 use Rattle.node_work.specs.Passing.{turn_at_end}
@@ -209,6 +209,7 @@ lane_has p h (Join peer m) may lacks = joins h peer may.0 may.1 lacks
 lane_has p h (Took peer number m copies lost) may lacks = lacks
 lane_has p h (Got peer number) may lacks = lacks
 lane_has p h (Believed peer dots) may lacks = lacks
+lane_has p h (Greeted peer g) may lacks = lacks
 lane_has p h (Gave f) may lacks = lacks
 lane_has p h (Left_out what) may lacks = lacks
 

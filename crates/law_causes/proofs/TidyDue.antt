@@ -29,7 +29,7 @@ use Rattle.subscription_set.specs.Standing.{any_below}
 use Rattle.node_bridge.specs.View.{BridgeView, offer_to}
 use Rattle.node_work.specs.declared.outcome.Output.TheVariants.{Close}
 use Rattle.node_work.specs.Acts.{Act, StoreAct, MomentTaken, Began, Moved, Named, Acknowledged, Made, Store, Connection, Session, Bridge, Out, Passed, Dropped, Allowed, Runs, next}
-use Rattle.node_work.specs.Held.Bridge.{BridgeAct, Put as Put_in, Took, Got, Believed, Gave, Left_out}
+use Rattle.node_work.specs.Held.Bridge.{BridgeAct, Put as Put_in, Took, Got, Believed, Greeted, Gave, Left_out}
 use Rattle.node_work.specs.Held.Connections.{Closed}
 use Rattle.node_work.specs.Held.Sessions.{SessionStep, Begun, Called, Over, IsOn, IsCall, HappensAt, has_session, will_is_due, end_is_due}
 use Rattle.node_work.specs.View.{Place, HeldView}
@@ -199,6 +199,7 @@ bridge_rested q h (Put_in peer m) rested = rested
 bridge_rested q h (Took peer number m copies lost) rested = rested
 bridge_rested q h (Got peer number) rested = rested
 bridge_rested q h (Believed peer dots) rested = rested
+bridge_rested q h (Greeted peer g) rested = rested
 bridge_rested q h (Gave f) rested = rested
 bridge_rested q h (Left_out what) rested = rested
 

@@ -26,7 +26,7 @@ use Rattle.session_table.specs.Seats.{Seat, begun}
 use Rattle.node_work.specs.declared.granted.Granted.{Granted}
 use Rattle.node_work.specs.declared.outcome.Output.TheVariants.{Send, Close}
 use Rattle.node_work.specs.Acts.{Act, StoreAct, MomentTaken, Began, Moved, Store, Connection, Session, Bridge, Out, Named, Acknowledged, Passed, Dropped, Allowed, Runs, next}
-use Rattle.node_work.specs.Held.Bridge.{BridgeAct, Put as Put_in, Took, Got, Believed, Gave, Left_out}
+use Rattle.node_work.specs.Held.Bridge.{BridgeAct, Put as Put_in, Took, Got, Believed, Greeted, Gave, Left_out}
 use Rattle.node_work.specs.Held.Connections.{ConnectionTable, Opened, Fed, Roomed, Accepted, Closed, changed_at, client_at, first_at, is_open, with_client}
 use Rattle.node_work.specs.Held.Sessions.{SessionStep, Begun, Called, Over, IsOn, IsCall, connection_at, has_session, takes_disconnect}
 use Rattle.node_work.specs.Packets.{refused_packet}
@@ -152,6 +152,7 @@ bridge_serves c h (Put_in peer m) s = s
 bridge_serves c h (Took peer number m copies lost) s = s
 bridge_serves c h (Got peer number) s = s
 bridge_serves c h (Believed peer dots) s = s
+bridge_serves c h (Greeted peer g) s = s
 bridge_serves c h (Gave f) s = s
 bridge_serves c h (Left_out what) s = s
 

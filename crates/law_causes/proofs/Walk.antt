@@ -36,7 +36,7 @@ use Rattle.node_work.specs.declared.outcome.Output.TheVariants.{Send, Close}
 use Rattle.node_work.specs.Acts.{Act, StoreAct, MomentTaken, Began, Moved, Store, Made, Merged, Connection, Session, Bridge, Out, Named, Acknowledged, Passed, Dropped}
 use Rattle.node_work.specs.Calling.{Calls, Queues, QueuesOne}
 use Rattle.node_work.specs.Doings.{Sends, Disconnects, Redirects, Misses, PutsInLane, RoutesBy, Routes, TakesMoment, GivesBody, GivesFrame, is_small}
-use Rattle.node_work.specs.Held.Bridge.{Took, Gave, Got as GotBy, Believed, Left_out}
+use Rattle.node_work.specs.Held.Bridge.{Took, Gave, Got as GotBy, Believed, Greeted, Left_out, hello_to}
 use Rattle.node_work.specs.Held.Connections.{Opened, Accepted, Roomed, Closed, Fed, is_open, client_at, first_at, room_at}
 use Rattle.node_work.specs.Held.Feeding.{cut_of}
 use Rattle.node_work.specs.Held.Sessions.{SessionAct, Begun, Called, Over, takes_disconnect, takes_packet, will_is_due, end_is_due, connection_at, has_session}
@@ -399,8 +399,8 @@ module _ (K : (A : Type 0) → (Option A → Doing) → Type 0) (w : Walks K) wh
 
         greets : (peer : ℕ) → Does (bridge.Greets peer)
         greets peer =
-            w.looks (λ p h. is_other p peer) (λ other. If other (GivesBody peer (λ h. Hello)) (Returns tt))
-            (λ other. w.by_test other (GivesBody peer (λ h. Hello)) (Returns tt) (gives peer (λ h. Hello)) (w.returns tt))
+            w.looks (λ p h. is_other p peer) (λ other. If other (GivesBody peer (hello_to peer)) (Returns tt))
+            (λ other. w.by_test other (GivesBody peer (hello_to peer)) (Returns tt) (gives peer (hello_to peer)) (w.returns tt))
 
         gives_state : (peer : ℕ) (s : Option State) → Does (bridge.GivesState peer s)
         gives_state peer None = w.returns tt
@@ -435,7 +435,7 @@ module _ (K : (A : Type 0) → (Option A → Doing) → Type 0) (w : Walks K) wh
             (λ next. w.by_test next (passing.TakesForward from number m) (Returns tt) (takes_forward from number m) (w.returns tt))
 
         takes_body : (from : ℕ) (body : FrameBody) → Does (bridge.TakesBody from body)
-        takes_body from Hello = tells_taken from
+        takes_body from (Hello g) = w.join (Acting (λ p h. Bridge (Greeted from g))) (λ _. bridge.TellsTaken from) (w.acting (λ p h. Bridge (Greeted from g)) (λ p h. tt)) (λ _. tells_taken from)
         takes_body from (Delta s) = w.join (Acting (λ p h. Store (Merged s))) (λ _. bridge.TellsTaken from) (w.acting (λ p h. Store (Merged s)) (λ p h. tt)) (λ _. tells_taken from)
         takes_body from (Know dots) = w.acting (λ p h. Bridge (Believed from dots)) (λ p h. tt)
         takes_body from (Carried number m) =

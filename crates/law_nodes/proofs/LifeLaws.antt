@@ -11,7 +11,7 @@ use Rattle.session_table.specs.Seats.{Seat, Seats, begun}
 use Rattle.law_maps.proofs.Texts.{same_text, get_inserted, get_apart, get_removed, get_left}
 use Rattle.node_work.specs.Acts.{Act, MomentTaken, Began, Moved, Store, Connection, Session, Bridge, Out, Named, Acknowledged, Passed, Dropped, Allowed, next}
 use Rattle.node_work.specs.Held.Connections.{ConnectionAct, Opened, Fed, Roomed, Accepted, Closed}
-use Rattle.node_work.specs.Held.Bridge.{BridgeAct, Put, Took, Got, Believed, Gave, Left_out, bridged}
+use Rattle.node_work.specs.Held.Bridge.{BridgeAct, Put, Took, Got, Believed, Greeted, Gave, Left_out, bridged}
 use Rattle.node_work.specs.Held.Sessions.{SessionAct, SessionStep, Begun, Called, Over, MayCall, called}
 use Rattle.home_table.specs.Table.{Table}
 use Rattle.node_work.specs.Lasting.{lasting, IsWoken}
@@ -72,6 +72,7 @@ lived_bridge h (Put peer m) lives lived = lived
 lived_bridge h (Took peer number m copies lost) lives lived = lived
 lived_bridge h (Got peer number) lives lived = lived
 lived_bridge h (Believed peer dots) lives lived = lived
+lived_bridge h (Greeted peer g) lives lived = lived
 lived_bridge h (Gave f) lives lived = lived
 lived_bridge h (Left_out what) lives lived = lived
 

@@ -22,7 +22,7 @@ use Rattle.node_work.specs.declared.counts.Missed.TheVariants.{BadFrame, FrameTo
 use Rattle.node_work.specs.Acts.{MomentTaken, Began, Moved, Store, Connection, Bridge, Merged}
 use Rattle.node_work.specs.Calling.{Calls}
 use Rattle.node_work.specs.Doings.{TakesMoment, Removes, Misses, GivesBody, GivesFrame, is_small}
-use Rattle.node_work.specs.Held.Bridge.{Gave, Got as GotBy, Believed}
+use Rattle.node_work.specs.Held.Bridge.{Gave, Got as GotBy, Believed, Greeted, hello_to}
 use Rattle.node_work.specs.Held.Feeding.{cut_of}
 use Rattle.node_work.specs.Held.Connections.{Closed, Fed, Opened, Roomed, is_open, client_at, first_at}
 use Rattle.node_work.specs.Frames.{is_for_node, is_other}
@@ -164,8 +164,8 @@ module _ (T : Property) (j : Joins T) (serves : (c : ℕ) (client : List ℕ) (k
 
   greets : (peer : ℕ) → Keeps T (bridge.Greets peer)
   greets peer =
-      k_looks T j (λ p h. is_other p peer) (λ other. If other (GivesBody peer (λ h. Hello)) (Returns tt))
-      (λ other. k_if T j other (GivesBody peer (λ h. Hello)) (Returns tt) (gives peer (λ h. Hello)) (k_returns T j tt))
+      k_looks T j (λ p h. is_other p peer) (λ other. If other (GivesBody peer (hello_to peer)) (Returns tt))
+      (λ other. k_if T j other (GivesBody peer (hello_to peer)) (Returns tt) (gives peer (hello_to peer)) (k_returns T j tt))
 
   gives_state : (peer : ℕ) (s : Option State) → Keeps T (bridge.GivesState peer s)
   gives_state peer None = k_returns T j tt
@@ -200,7 +200,7 @@ module _ (T : Property) (j : Joins T) (serves : (c : ℕ) (client : List ℕ) (k
       (λ next. k_if T j next (passing.TakesForward from number m) (Returns tt) (takes_forward from number m) (k_returns T j tt))
 
   takes_body : (from : ℕ) (body : FrameBody) → Keeps T (bridge.TakesBody from body)
-  takes_body from Hello = tells_taken from
+  takes_body from (Hello g) = k_then T j (Acting (λ p h. Bridge (Greeted from g))) (λ _. bridge.TellsTaken from) (k_acting T j (λ p h. Bridge (Greeted from g)) (λ p h. tt)) (λ _. tells_taken from)
   takes_body from (Delta s) = k_then T j (Acting (λ p h. Store (Merged s))) (λ _. bridge.TellsTaken from) (k_acting T j (λ p h. Store (Merged s)) (λ p h. tt)) (λ _. tells_taken from)
   takes_body from (Know dots) = k_acting T j (λ p h. Bridge (Believed from dots)) (λ p h. tt)
   takes_body from (Forward number m) =

@@ -7,7 +7,7 @@ use Rattle.node_work.specs.declared.outcome.Output.{Output}
 use Rattle.node_work.specs.declared.outcome.Output.TheVariants.{Send, Close, Frame as Release}
 use Rattle.node_work.specs.Acts.{Act, MomentTaken, Began, Moved, Store, Connection, Session, Bridge, Out, Named, Acknowledged, Passed, Dropped, Runs}
 use Rattle.node_work.specs.Calling.{Calls, CallsAt}
-use Rattle.node_work.specs.Held.Bridge.{BridgeAct, Put, Took, Got, Believed, Gave, Left_out}
+use Rattle.node_work.specs.Held.Bridge.{BridgeAct, Put, Took, Got, Believed, Greeted, Gave, Left_out}
 use Rattle.node_work.specs.Held.Sessions.{SessionAct, SessionStep, Begun, Called, Over, seat_at}
 use Rattle.node_work.specs.View.{Place, HeldView}
 use Rattle.node_work.specs.Working.{Doing, Returns, Stops, Acting, Numbered, Looks, FindsWhere, If, Where, Then, InTurn, Each}
@@ -46,6 +46,7 @@ IsPlainBridge (Put peer m) = Unit {0}
 IsPlainBridge (Took peer number m copies lost) = ⊥
 IsPlainBridge (Got peer number) = Unit {0}
 IsPlainBridge (Believed peer dots) = Unit {0}
+IsPlainBridge (Greeted peer g) = Unit {0}
 IsPlainBridge (Gave f) = Unit {0}
 IsPlainBridge (Left_out what) = Unit {0}
 

@@ -17,7 +17,7 @@ use Rattle.bridge_lanes.proofs.LaneLists.{numbered_longer}
 use Rattle.bridge_lanes.proofs.Keeping.{AreKept, act_keeps, act_begins, waits_numbered}
 use Rattle.node_bridge.specs.View.{BridgeView, has_lanes, is_next, lane_to, offer_to}
 use Rattle.node_work.specs.Acts.{Act, MomentTaken, Began, Moved, Store, Connection, Session, Bridge, Out, Named, Acknowledged, Passed, Dropped, Runs, gather, heard_in}
-use Rattle.node_work.specs.Held.Bridge.{BridgeAct, Put, Took, Got, Believed, Gave, Left_out, Carries}
+use Rattle.node_work.specs.Held.Bridge.{BridgeAct, Put, Took, Got, Believed, Greeted, Gave, Left_out, Carries}
 use Rattle.node_work.specs.Held.Connections.{Opened, Fed, Accepted, Roomed, Closed}
 use Rattle.node_work.specs.Held.Sessions.{Begun, Called, Over}
 use Rattle.node_work.specs.View.{Place, HeldView}
@@ -29,19 +29,20 @@ given_by (Put peer m) = []
 given_by (Took peer number m copies lost) = []
 given_by (Got peer number) = []
 given_by (Believed peer dots) = []
+given_by (Greeted peer g) = []
 given_by (Gave f) = f ∷ []
 given_by (Left_out what) = []
 
 -- what a frame says of the lanes between its sender and its receiver, by what the sender put in and took
 abbrev pub SaysOf : List Forward → List Forward → FrameBody → Type 0
-SaysOf put took bodies.Hello = Unit {0}
+SaysOf put took (bodies.Hello g) = Unit {0}
 SaysOf put took (bodies.Delta s) = Unit {0}
 SaysOf put took (bodies.Know dots) = Unit {0}
 SaysOf put took (bodies.Forward number m) = IsNumbered put number m
 SaysOf put took (bodies.Got number) = number ≤ length took
 
 pub says_later : (put took more others : List Forward) (b : FrameBody) → SaysOf put took b → SaysOf (put ++ more) (took ++ others) b
-says_later put took more others bodies.Hello x = tt
+says_later put took more others (bodies.Hello g) x = tt
 says_later put took more others (bodies.Delta s) x = tt
 says_later put took more others (bodies.Know dots) x = tt
 says_later put took more others (bodies.Forward number m) x = numbered_longer put more number m x
@@ -53,6 +54,7 @@ IsTold puts others (Put peer m) = Unit {0}
 IsTold puts others (Took peer number m copies lost) = IsNumbered (puts peer) number m
 IsTold puts others (Got peer number) = number ≤ length (others peer)
 IsTold puts others (Believed peer dots) = Unit {0}
+IsTold puts others (Greeted peer g) = Unit {0}
 IsTold puts others (Gave f) = Unit {0}
 IsTold puts others (Left_out what) = Unit {0}
 
@@ -100,7 +102,7 @@ next_lane b peer number e =
 module _ (p : Place) (others puts : ℕ → List Forward) where
   -- a frame that goes out
   carried : (h : HeldView) (put took : ℕ → List Forward) → AreKept h.bridge.lanes put took others → (to : ℕ) (b : FrameBody) → Carries h to b → SaysOf (put to) (took to) b
-  carried h put took k to bodies.Hello c = tt
+  carried h put took k to (bodies.Hello g) c = tt
   carried h put took k to (bodies.Delta s) c = tt
   carried h put took k to (bodies.Know dots) c = tt
   carried h put took k to (bodies.Forward number m) c = waits_numbered (lane_of h.bridge.lanes to) (put to) (took to) (others to) number m (k to) c
@@ -163,6 +165,7 @@ module _ (p : Place) (others puts : ℕ → List Forward) where
   lanes_grow (Passed m copies lost routes ∷ acts) h h' put took k le begins r all = lanes_grow acts r.0 h' put took (same_lanes r.0 _ put took r.1.1 k) le begins r.2 all
   lanes_grow (Dropped ∷ acts) h h' put took k le begins r all = lanes_grow acts r.0 h' put took (same_lanes r.0 _ put took r.1.1 k) le begins r.2 all
   lanes_grow (Bridge (Believed peer dots) ∷ acts) h h' put took k le begins r all = lanes_grow acts r.0 h' put took (same_lanes r.0 _ put took r.1.1 k) le begins r.2 all.1
+  lanes_grow (Bridge (Greeted peer g) ∷ acts) h h' put took k le begins r all = lanes_grow acts r.0 h' put took (same_lanes r.0 _ put took r.1.1 k) le begins r.2 all.1
   lanes_grow (Bridge (Left_out what) ∷ acts) h h' put took k le begins r all = lanes_grow acts r.0 h' put took (same_lanes r.0 _ put took r.1.1 k) le begins r.2 all
   lanes_grow (Bridge (Gave f) ∷ acts) h h' put took k le begins r all =
       given_grow h h' put took f acts k r.1.0.from r.1.0.carries (lanes_grow acts r.0 h' put took (same_lanes r.0 _ put took r.1.1 k) le begins r.2 all)

@@ -101,7 +101,7 @@ module _ (put took : Histories) (i : ℕ) where
   all_none bs e = subst All (sym e) tt
 
   all_of : (from : ℕ) (b : FrameBody) (bs : List BridgeAct) → SaysOf (put from i) (took from i) b → IsHeardOf from b bs → All bs
-  all_of from bodies.Hello bs s h = all_none bs h
+  all_of from (bodies.Hello g) bs s h = subst All (sym h) (tt, tt)
   all_of from (bodies.Delta t) bs s h = all_none bs h
   all_of from (bodies.Know dots) bs s h = subst All (sym h) (tt, tt)
   all_of from (bodies.Forward number m) bs s (inl h) = all_none bs h

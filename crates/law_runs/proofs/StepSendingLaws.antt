@@ -9,7 +9,7 @@ use Rattle.bridge_frames.specs.declared.forward.Forward.{Forward}
 use Rattle.bridge_routes.specs.declared.plain.PlainCopy.{PlainCopy as Copy}
 use Rattle.node_work.specs.declared.outcome.Output.TheVariants.{Send, Close, Frame as Release}
 use Rattle.node_work.specs.Acts.{Act, MomentTaken, Began, Moved, Store, Connection, Session, Bridge, Out, Named, Acknowledged, Passed, Dropped, Runs, gather, output_in}
-use Rattle.node_work.specs.Held.Bridge.{Put, Took, Got, Believed, Gave, Left_out}
+use Rattle.node_work.specs.Held.Bridge.{Put, Took, Got, Believed, Greeted, Gave, Left_out}
 use Rattle.node_work.specs.Held.Sessions.{SessionStep, Begun, Called, Over, end_outputs, outputs_on, packet_output}
 use Rattle.node_work.specs.View.{Place, HeldView}
 use Rattle.node_work.proofs.Working.{gather-append}
@@ -77,6 +77,7 @@ sent_one p h (Bridge (Put peer m)) plain connection bytes i = absurd i
 sent_one p h (Bridge (Took peer number m copies lost)) plain connection bytes i = absurd plain
 sent_one p h (Bridge (Got peer number)) plain connection bytes i = absurd i
 sent_one p h (Bridge (Believed peer dots)) plain connection bytes i = absurd i
+sent_one p h (Bridge (Greeted peer g)) plain connection bytes i = absurd i
 sent_one p h (Bridge (Gave f)) plain connection bytes (inl e) = cc e
 sent_one p h (Bridge (Gave f)) plain connection bytes (inr i) = absurd i
 sent_one p h (Bridge (Left_out what)) plain connection bytes i = absurd i

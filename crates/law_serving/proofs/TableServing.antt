@@ -28,7 +28,7 @@ use Rattle.node_work.proofs.Homes.{homes_stay}
 use Rattle.node_work.proofs.Working.{gather-append}
 use Rattle.node_work.specs.Acts.{Act, MomentTaken, Began, Moved, Store, Connection, Session, Bridge, Out, Named, Acknowledged, Passed, Dropped, Runs, gather, moved_in, next}
 use Rattle.node_work.specs.declared.outcome.Output.{Output}
-use Rattle.node_work.specs.Held.Bridge.{BridgeAct, Put, Took, Got, Believed, Gave, Left_out, bridged}
+use Rattle.node_work.specs.Held.Bridge.{BridgeAct, Put, Took, Got, Believed, Greeted, Gave, Left_out, bridged}
 use Rattle.node_work.specs.Held.Connections.{ConnectionAct, Opened, Fed, Roomed, Accepted, Closed, after_connection_act}
 use Rattle.node_work.specs.Held.Sessions.{SessionAct, Begun, Called, Over, called}
 use Rattle.node_work.specs.View.{HeldView, NodeView, Place, nodes_of}
@@ -59,6 +59,7 @@ bridge_started h (Put peer m) = refl
 bridge_started h (Took peer number m copies lost) = refl
 bridge_started h (Got peer number) = refl
 bridge_started h (Believed peer dots) = refl
+bridge_started h (Greeted peer g) = refl
 bridge_started h (Gave f) = refl
 bridge_started h (Left_out what) = refl
 

@@ -9,7 +9,7 @@ use Rattle.status_tally.specs.Links.{head_of}
 
 in_head : (from to : ℕ) (body : FrameBody) → from < 2 ^ 16 → head_of (spelling (record { from = from; to = to; body = body })) ≡ Some (from, tells_by body)
 unfolding content
-in_head from to Hello below = ap (λ n. Some (n, false)) (from_be_bytes-to_be_bytes_2 from below)
+in_head from to (Hello greeting) below = ap (λ n. Some (n, true)) (from_be_bytes-to_be_bytes_2 from below)
 in_head from to (Delta state) below = ap (λ n. Some (n, true)) (from_be_bytes-to_be_bytes_2 from below)
 in_head from to (Know dots) below = ap (λ n. Some (n, true)) (from_be_bytes-to_be_bytes_2 from below)
 in_head from to (Forward number message) below = ap (λ n. Some (n, false)) (from_be_bytes-to_be_bytes_2 from below)

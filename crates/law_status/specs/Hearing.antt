@@ -7,7 +7,7 @@ use Rattle.status_tally.specs.Links.{head_of}
 
 -- it says what its sender has taken, or brings some of it
 abbrev pub tells_by : FrameBody → Bool
-tells_by Hello = false
+tells_by (Hello greeting) = true
 tells_by (Delta state) = true
 tells_by (Know dots) = true
 tells_by (Forward number message) = false

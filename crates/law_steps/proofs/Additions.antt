@@ -24,7 +24,7 @@ use Rattle.node_work.specs.declared.counts.Missed.TheVariants.{LaneFull}
 use Rattle.node_work.specs.Acts.{Act, StoreAct, MomentTaken, Began, Moved, Store, Made, Merged, Connection, Session, Bridge, Out, Named, Acknowledged, Passed, Dropped, Runs}
 use Rattle.node_work.specs.Calling.{Calls, CallsAt, Queues, QueuesOne}
 use Rattle.node_work.specs.Doings.{MakesPut, PutsInLaneBy, Routes, RoutesBy}
-use Rattle.node_work.specs.Held.Bridge.{BridgeAct, Put, Took, Got, Believed, Gave, Left_out}
+use Rattle.node_work.specs.Held.Bridge.{BridgeAct, Put, Took, Got, Believed, Greeted, Gave, Left_out}
 use Rattle.node_work.specs.Held.Making.{put_at_end}
 use Rattle.node_work.specs.Held.Sessions.{SessionAct, SessionStep, Begun, Called, Over, seat_at}
 use Rattle.node_work.specs.Passing.{content_given, turn_at_end}
@@ -89,6 +89,7 @@ cause_more xs before (Bridge (Put peer m)) c = record {
 cause_more xs before (Bridge (Took peer number m copies lost)) c = tt
 cause_more xs before (Bridge (Got peer number)) c = tt
 cause_more xs before (Bridge (Believed peer dots)) c = tt
+cause_more xs before (Bridge (Greeted peer g)) c = tt
 cause_more xs before (Bridge (Gave f)) c = tt
 cause_more xs before (Bridge (Left_out what)) c = tt
 cause_more xs before (Passed m copies lost routes) c =
@@ -127,6 +128,7 @@ bare_cause (Bridge (Put peer m)) bare before = absurd bare
 bare_cause (Bridge (Took peer number m copies lost)) bare before = tt
 bare_cause (Bridge (Got peer number)) bare before = tt
 bare_cause (Bridge (Believed peer dots)) bare before = tt
+bare_cause (Bridge (Greeted peer g)) bare before = tt
 bare_cause (Bridge (Gave f)) bare before = tt
 bare_cause (Bridge (Left_out what)) bare before = tt
 bare_cause (Passed m copies lost routes) bare before = absurd bare

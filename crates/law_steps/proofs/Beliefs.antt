@@ -12,7 +12,7 @@ use Rattle.node_work.specs.declared.counts.Counts.{Counts}
 use Rattle.node_work.specs.declared.counts.Missed.{Missed}
 use Rattle.node_work.specs.declared.counts.Missed.TheVariants.{LaneFull, BadFrame, FrameTooLarge, TableRefused}
 use Rattle.node_work.specs.Acts.{Act, MomentTaken, Began, Moved, Store, Connection, Session, Bridge, Out, Named, Acknowledged, Passed, Dropped, Made, Merged, Runs, next}
-use Rattle.node_work.specs.Held.Bridge.{BridgeAct, Put, Took, Got, Believed, Gave, Left_out, bridged, missed}
+use Rattle.node_work.specs.Held.Bridge.{BridgeAct, Put, Took, Got, Believed, Greeted, Gave, Left_out, bridged, missed}
 use Rattle.node_work.specs.Held.Connections.{ConnectionAct, Opened, Fed, Accepted, Roomed, Closed, after_connection_act}
 use Rattle.node_work.specs.Held.Sessions.{SessionAct, Begun, Called, Over, called, counted}
 use Rattle.node_work.specs.View.{Place, HeldView, fresh}
@@ -54,6 +54,7 @@ bridge_beliefs h (Put peer m) b = b ∙ sym (length-set h.bridge.lanes peer (wit
 bridge_beliefs h (Took peer number m copies lost) b = b ∙ sym (length-set h.bridge.lanes peer (with_took number (lane_to h.bridge peer)))
 bridge_beliefs h (Got peer number) b = b ∙ sym (length-set h.bridge.lanes peer (with_got number (lane_to h.bridge peer)))
 bridge_beliefs h (Believed peer dots) b = length-set h.bridge.beliefs peer (set.union (belief_of h.bridge peer) dots) ∙ b
+bridge_beliefs h (Greeted peer g) b = length-set h.bridge.beliefs peer g.dots ∙ b
 bridge_beliefs h (Gave f) b = b
 bridge_beliefs h (Left_out what) b = b
 
@@ -112,6 +113,7 @@ alike_act h (Bridge (Left_out what)) s = record { beliefs = refl; bad = no_bad w
 alike_act h (Bridge (Took peer number m copies lost)) s = absurd s
 alike_act h (Bridge (Got peer number)) s = absurd s
 alike_act h (Bridge (Believed peer dots)) s = absurd s
+alike_act h (Bridge (Greeted peer g)) s = absurd s
 alike_act h (Bridge (Gave f)) s = absurd s
 alike_act h (Connection a) s = alike_by h (after_connection_act h a) (connection_bridge h a) (connection_counts h a)
 alike_act h (Session a) s = record { beliefs = ap (λ (v : BridgeView). v.beliefs) (session_bridge h a); bad = session_bad h a }

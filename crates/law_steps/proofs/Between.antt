@@ -6,6 +6,7 @@ use Rattle.bridge_frames.specs.declared.body.FrameBody.{FrameBody}
 use Rattle.bridge_frames.specs.declared.body.FrameBody.TheVariants.{Hello, Delta, Know, Forward as Carried, Got}
 use Rattle.bridge_frames.specs.declared.forward.Forward.{Forward}
 use Rattle.bridge_frames.specs.declared.frame.BridgeFrame.{BridgeFrame}
+use Rattle.bridge_frames.specs.declared.greeting.Greeting.{Greeting}
 use Rattle.bridge_frames.specs.Frames.{frame_in}
 use Rattle.causal_context.specs.Dots.{Dots}
 use Rattle.bridge_routes.specs.declared.plain.PlainCopy.{PlainCopy as Copy}
@@ -16,7 +17,7 @@ use Rattle.node_work.specs.Acts.{Store, Bridge, Merged}
 use Rattle.node_work.specs.Calling.{Queues}
 use Rattle.node_work.specs.Doings.{GivesBody, GivesFrame, Misses, is_small}
 use Rattle.node_work.specs.Frames.{is_for_node, is_other}
-use Rattle.node_work.specs.Held.Bridge.{Took, Got as GotBy, Believed, Gave}
+use Rattle.node_work.specs.Held.Bridge.{Took, Got as GotBy, Believed, Greeted, Gave, hello_to}
 use Rattle.node_work.specs.View.{HeldView}
 use Rattle.node_work.specs.Working.{Doing, Returns, Acting, If, Each}
 use Rattle.node_clients.specs.Passing as passing
@@ -28,6 +29,7 @@ pub record Mid (K : (A : Type 0) → (Option A → Doing) → Type 0) : Type 0 w
   pub took : (from number : ℕ) (m : Forward) (copies : List Copy) (lost : ℕ) → K (Unit {0}) (Acting (λ p h. Bridge (Took from number m copies lost)))
   pub merged : (s : State) → K (Unit {0}) (Acting (λ p h. Store (Merged s)))
   pub believed : (from : ℕ) (dots : Dots) → K (Unit {0}) (Acting (λ p h. Bridge (Believed from dots)))
+  pub greeted : (from : ℕ) (g : Greeting) → K (Unit {0}) (Acting (λ p h. Bridge (Greeted from g)))
   pub got : (from number : ℕ) → K (Unit {0}) (Acting (λ p h. Bridge (GotBy from number)))
   pub bad : K (Unit {0}) (Misses BadFrame)
 
@@ -43,8 +45,8 @@ module _ (K : (A : Type 0) → (Option A → Doing) → Type 0) (w : Low K) (b :
 
   pub greets : (peer : ℕ) → Does (bridge.Greets peer)
   greets peer =
-      w.looks (λ p h. is_other p peer) (λ other. If other (GivesBody peer (λ h. Hello)) (Returns tt))
-      (λ other. w.by_test other (GivesBody peer (λ h. Hello)) (Returns tt) (gives peer (λ h. Hello)) (w.returns tt))
+      w.looks (λ p h. is_other p peer) (λ other. If other (GivesBody peer (hello_to peer)) (Returns tt))
+      (λ other. w.by_test other (GivesBody peer (hello_to peer)) (Returns tt) (gives peer (hello_to peer)) (w.returns tt))
 
   gives_state : (peer : ℕ) (s : Option State) → Does (bridge.GivesState peer s)
   gives_state peer None = w.returns tt
@@ -70,7 +72,7 @@ module _ (K : (A : Type 0) → (Option A → Doing) → Type 0) (w : Low K) (b :
       (λ x. w.join (Acting (λ p h. Bridge (Took from number m x.0 x.1))) (λ _. Queues x.0) (b.took from number m x.0 x.1) (λ _. queues_all K w x.0))
 
   takes_body : (from : ℕ) (body : FrameBody) → Does (bridge.TakesBody from body)
-  takes_body from Hello = gives from (λ h. Know h.store.taken)
+  takes_body from (Hello g) = w.join (Acting (λ p h. Bridge (Greeted from g))) (λ _. bridge.TellsTaken from) (b.greeted from g) (λ _. gives from (λ h. Know h.store.taken))
   takes_body from (Delta s) = w.join (Acting (λ p h. Store (Merged s))) (λ _. bridge.TellsTaken from) (b.merged s) (λ _. gives from (λ h. Know h.store.taken))
   takes_body from (Know dots) = b.believed from dots
   takes_body from (Carried number m) =

@@ -14,7 +14,7 @@ use Rattle.node_work.specs.Acts.{Act, Bridge, Runs, next}
 use Rattle.node_work.specs.Doings.{GivesBody, GivesFrame, Misses, is_small}
 use Rattle.node_work.specs.Frames.{is_for_node, is_other}
 use Rattle.node_work.specs.Handed.{IsHanded, found}
-use Rattle.node_work.specs.Held.Bridge.{Took, Believed, Gave, Left_out, Got as GotBy}
+use Rattle.node_work.specs.Held.Bridge.{Took, Believed, Greeted, Gave, Left_out, Got as GotBy, hello_to}
 use Rattle.node_work.specs.Passing.{seated}
 use Rattle.node_work.specs.View.{Place, HeldView}
 use Rattle.node_work.specs.Working.{Returns, Acting, If, Each}
@@ -33,7 +33,7 @@ gave_by : (small : Bool) (f : BridgeFrame) (x : Unit {0}) (p : Place) (h : HeldV
 gave_by true f x p h acts d = d.1
 gave_by false f x p h acts d = d.1
 
-gave : (f : BridgeFrame) (x : Unit {0}) (p : Place) (h : HeldView) (acts : List Act) → GivesFrame f (Some x) p h acts → acts ≡ gives_out f ∷ []
+pub gave : (f : BridgeFrame) (x : Unit {0}) (p : Place) (h : HeldView) (acts : List Act) → GivesFrame f (Some x) p h acts → acts ≡ gives_out f ∷ []
 gave f x p h acts d = gave_by (is_small f) f x p h acts d
 
 each_out : (fs : List BridgeFrame) (x : Unit {0}) (p : Place) (h : HeldView) (acts : List Act) → Each GivesFrame fs (Some x) p h acts → acts ≡ all_out fs
@@ -46,11 +46,11 @@ out_both [] gs = refl
 out_both (f ∷ fs) gs = ap (λ zs. gives_out f ∷ zs) (out_both fs gs)
 
 -- ---- of its own accord
-greeted_if : (other : Bool) (peer : ℕ) (x : Unit {0}) (p : Place) (h : HeldView) (acts : List Act) → If other (GivesBody peer (λ h. Hello)) (Returns tt) (Some x) p h acts → acts ≡ cond other (all_out (frame_to p peer Hello ∷ [])) []
-greeted_if true peer x p h acts d = gave (frame_to p peer Hello) x p h acts d
+greeted_if : (other : Bool) (peer : ℕ) (x : Unit {0}) (p : Place) (h : HeldView) (acts : List Act) → If other (GivesBody peer (hello_to peer)) (Returns tt) (Some x) p h acts → acts ≡ cond other (all_out (frame_to p peer (hello_to peer h) ∷ [])) []
+greeted_if true peer x p h acts d = gave (frame_to p peer (hello_to peer h)) x p h acts d
 greeted_if false peer x p h acts d = d.1
 
-pub greeted : (peer : ℕ) (x : Unit {0}) (p : Place) (h : HeldView) (acts : List Act) → bridge.Greets peer (Some x) p h acts → GreetsAlone p peer acts
+pub greeted : (peer : ℕ) (x : Unit {0}) (p : Place) (h : HeldView) (acts : List Act) → bridge.Greets peer (Some x) p h acts → GreetsAlone p h peer acts
 greeted peer x p h acts d = greeted_if (is_other p peer) peer x p h acts d
 
 state_out : (s : Option State) (peer : ℕ) (x : Unit {0}) (p : Place) (h mid : HeldView) (acts : List Act) → bridge.GivesState peer s (Some x) p h acts → Runs p h acts mid → (acts ≡ all_out (deltas_to p peer s)) × (mid.bridge ≡ h.bridge)
@@ -106,7 +106,9 @@ taken_next false from number m x p h acts d = d.1
 
 -- ---- a frame that comes
 heard : (body : FrameBody) (from : ℕ) (x : Unit {0}) (p : Place) (h : HeldView) (acts : List Act) → bridge.TakesBody from body (Some x) p h acts → HearsAlone p h from body acts
-heard Hello from x p h acts d = record { own = []; brings = refl; left = h; leaves = refl; is = gave (frame_to p from (Know h.store.taken)) x p h acts d }
+heard (Hello g) from x p h acts (inl d) = none_some (sym d.0)
+heard (Hello g) from x p h acts (inr (y, own, mid, rest, one, ran, more, is)) =
+    record { own = own; brings = one.1; left = mid; leaves = ran; is = is ∙ ap (λ zs. own ++ zs) (gave (frame_to p from (Know mid.store.taken)) x p mid rest more) }
 heard (Delta s) from x p h acts (inl d) = none_some (sym d.0)
 heard (Delta s) from x p h acts (inr (y, own, mid, rest, one, ran, more, is)) =
     record { own = own; brings = one.1; left = mid; leaves = ran; is = is ∙ ap (λ zs. own ++ zs) (gave (frame_to p from (Know mid.store.taken)) x p mid rest more) }

@@ -60,7 +60,7 @@ module _ (p : Place) (h m n : HeldView) (xs ys : List Act) (sound : IsTable h.ho
   next_fixed false from number f x y = x ∙ sym y
 
   brought_fixed : (body : FrameBody) (from : ℕ) → IsBrought h from body xs → IsBrought h from body ys → xs ≡ ys
-  brought_fixed Hello from x y = x ∙ sym y
+  brought_fixed (Hello g) from x y = x ∙ sym y
   brought_fixed (Delta t) from x y = x ∙ sym y
   brought_fixed (Know dots) from x y = x ∙ sym y
   brought_fixed (Forward number f) from x y = next_fixed (is_next from number h.bridge) from number f x y

@@ -14,7 +14,7 @@ use Rattle.law_sessions.specs.Runs.{Event, connects, queues, rooms, takes, answe
 use Rattle.session_table.specs.Listing.{text_cmp}
 use Rattle.session_table.specs.Seats.{Seat}
 use Rattle.node_work.specs.Acts.{Act, StoreAct, MomentTaken, Began, Moved, Store, Connection, Session, Bridge, Out, Named, Acknowledged, Passed, Dropped, Allowed, Runs, next}
-use Rattle.node_work.specs.Held.Bridge.{BridgeAct, Put, Took, Got, Believed, Gave, Left_out}
+use Rattle.node_work.specs.Held.Bridge.{BridgeAct, Put, Took, Got, Believed, Greeted, Gave, Left_out}
 use Rattle.node_work.specs.Held.Sessions.{SessionAct, SessionStep, Begun, Called, Over, IsOn, IsCall, seat_at}
 use Rattle.node_work.specs.View.{Place, HeldView}
 use Rattle.law_steps.specs.Going.{MayEnd, IsOfEnding, SessionHasWill, seat_seen, seen_in}
@@ -102,6 +102,7 @@ bridge_calm client h (Left_out what) kind = record { moment = refl; homes = refl
 bridge_calm client h (Took peer number m copies lost) kind = absurd kind
 bridge_calm client h (Got peer number) kind = absurd kind
 bridge_calm client h (Believed peer dots) kind = absurd kind
+bridge_calm client h (Greeted peer g) kind = absurd kind
 bridge_calm client h (Gave f) kind = absurd kind
 
 act_calm : (client : List ℕ) (p : Place) (h : HeldView) (a : Act) → Allowed p h a → IsOfEnding client a → Calm client h (next h a)

@@ -9,7 +9,7 @@ use Rattle.session_table.specs.Seats.{run_outs, wills_due, ends_due}
 use Rattle.node_work.specs.declared.outcome.Output.TheVariants.{Close}
 use Rattle.node_work.specs.Acts.{Act, Connection, Out, Runs, Session, Bridge, next}
 use Rattle.node_work.specs.Calling.{Calls}
-use Rattle.node_work.specs.Held.Bridge.{BridgeAct, Put, Took, Got, Believed, Gave, Left_out, bridged}
+use Rattle.node_work.specs.Held.Bridge.{BridgeAct, Put, Took, Got, Believed, Greeted, Gave, Left_out, bridged}
 use Rattle.node_work.specs.Held.Connections.{ConnectionAct, Opened, Fed, Roomed, Accepted, Closed}
 use Rattle.node_work.specs.Held.Sessions.{SessionAct, Begun, Called, Over, called}
 use Rattle.node_work.specs.View.{Place, HeldView, ConnectionView}
@@ -101,6 +101,7 @@ bridge_fewer h (Put peer m) = λ c found at. at
 bridge_fewer h (Took peer number m copies lost) = λ c found at. at
 bridge_fewer h (Got peer number) = λ c found at. at
 bridge_fewer h (Believed peer dots) = λ c found at. at
+bridge_fewer h (Greeted peer g) = λ c found at. at
 bridge_fewer h (Gave f) = λ c found at. at
 bridge_fewer h (Left_out what) = λ c found at. at
 

@@ -12,6 +12,7 @@ use Rattle.node_work.specs.declared.counts.Missed.TheVariants.{BadFrame}
 use Rattle.node_work.specs.Acts.{Act, Runs}
 use Rattle.node_work.specs.Doings.{GivesBody, Misses}
 use Rattle.node_work.specs.Frames.{is_for_node, is_other}
+use Rattle.node_work.specs.Held.Bridge.{hello_to}
 use Rattle.node_work.specs.View.{Place, HeldView}
 use Rattle.node_work.specs.Working.{Returns, If}
 use Rattle.node_work.proofs.Working.{gather-append}
@@ -57,8 +58,8 @@ more_by : (other : Bool) (peer after : ℕ) (p : Place) (h : HeldView) (acts : L
 more_by true peer after p h acts d = more_to peer after tt p h acts d
 more_by false peer after p h acts d = ap frames_given d.1
 
-greets_by : (other : Bool) (peer : ℕ) (p : Place) (h last : HeldView) (acts : List Act) → If other (GivesBody peer (λ h. Hello)) (Returns tt) (Some tt) p h acts → Runs p h acts last → frames_given acts ≡ cond other (those_small (frame_to p peer Hello ∷ [])) []
-greets_by true peer p h last acts d runs = (gives_one (frame_to p peer Hello) tt p h last acts d runs).frames
+greets_by : (other : Bool) (peer : ℕ) (p : Place) (h last : HeldView) (acts : List Act) → If other (GivesBody peer (hello_to peer)) (Returns tt) (Some tt) p h acts → Runs p h acts last → frames_given acts ≡ cond other (those_small (frame_to p peer (hello_to peer h) ∷ [])) []
+greets_by true peer p h last acts d runs = (gives_one (frame_to p peer (hello_to peer h)) tt p h last acts d runs).frames
 greets_by false peer p h last acts d runs = ap frames_given d.1
 
 -- ---- in answer to a frame
@@ -68,7 +69,11 @@ tells from x p h last acts d runs =
     g.frames ∙ ap (λ (s : State). those_small (frame_to p from (Know s.taken) ∷ [])) (sym g.store)
 
 answers_by : (from : ℕ) (body : FrameBody) (p : Place) (h last : HeldView) (acts : List Act) → bridge.TakesBody from body (Some tt) p h acts → Runs p h acts last → frames_given acts ≡ those_small (map_list (frame_to p from) (answer_to last from body))
-answers_by from Hello p h last acts d runs = tells from tt p h last acts d runs
+answers_by from (Hello g) p h last acts (inl d) runs = none_some (sym d.0)
+answers_by from (Hello g) p h last acts (inr (x, own, mid, rest, one, ran, more, is)) runs =
+    let both = runs_split p own rest h last (subst (λ xs. Runs p h xs last) is runs) in
+    let same : both.0 ≡ mid = runs_determined p own h both.0 mid both.1 ran in
+    ap frames_given is ∙ gather-append given_in own rest ∙ ap (λ xs. frames_given xs ++ frames_given rest) one.1 ∙ tells from tt p mid last rest more (subst (λ v. Runs p v rest last) same both.2)
 answers_by from (Delta s) p h last acts (inl d) runs = none_some (sym d.0)
 answers_by from (Delta s) p h last acts (inr (x, own, mid, rest, one, ran, more, is)) runs =
     let both = runs_split p own rest h last (subst (λ xs. Runs p h xs last) is runs) in

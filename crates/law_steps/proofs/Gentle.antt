@@ -33,7 +33,7 @@ use Rattle.node_work.specs.Acts.{Act, Began, Acknowledged, Bridge, Connection, M
 use Rattle.node_work.specs.Calling.{Calls, Queues}
 use Rattle.node_work.specs.Doings.{Disconnects, GivesBody, GivesFrame, MakesRemove, MakesRemoveBelow, MakesSubscribe, Misses, Removes, RemovesBelow, Sends, is_small}
 use Rattle.node_work.specs.Frames.{is_for_node, is_other}
-use Rattle.node_work.specs.Held.Bridge.{Believed, Gave, Got as GotBy, Took}
+use Rattle.node_work.specs.Held.Bridge.{Believed, Greeted, Gave, Got as GotBy, Took, hello_to}
 use Rattle.node_work.specs.Held.Making.{number_at_end, removal, removal_below}
 use Rattle.node_work.specs.Held.Sessions.{Begun, Called, Over, takes_disconnect, takes_packet}
 use Rattle.node_work.specs.Packets.{moved_packet}
@@ -179,8 +179,8 @@ gives peer body = looks IsGentle (λ p h. record { from = p.id; to = peer; body 
 
 pub greets : (peer : ℕ) → Does (bridge.Greets peer)
 greets peer =
-    looks IsGentle (λ p h. is_other p peer) (λ other. If other (GivesBody peer (λ h. Hello)) (Returns tt))
-    (λ other. by_test IsGentle other (GivesBody peer (λ h. Hello)) (Returns tt) (gives peer (λ h. Hello)) (returns IsGentle tt))
+    looks IsGentle (λ p h. is_other p peer) (λ other. If other (GivesBody peer (hello_to peer)) (Returns tt))
+    (λ other. by_test IsGentle other (GivesBody peer (hello_to peer)) (Returns tt) (gives peer (hello_to peer)) (returns IsGentle tt))
 
 gives_state : (peer : ℕ) (s : Option State) → Does (bridge.GivesState peer s)
 gives_state peer None = returns IsGentle tt
@@ -214,7 +214,7 @@ takes_next from number m =
     (λ next. by_test IsGentle next (passing.TakesForward from number m) (Returns tt) (finds IsGentle (passing.IsHandedOver m) (passing.TakesCopies from number m) (takes_copies from number m)) (returns IsGentle tt))
 
 takes_body : (from : ℕ) (body : FrameBody) → Does (bridge.TakesBody from body)
-takes_body from Hello = gives from (λ h. Know h.store.taken)
+takes_body from (Hello g) = join IsGentle (Acting (λ p h. Bridge (Greeted from g))) (λ _. bridge.TellsTaken from) (acting IsGentle (λ p h. Bridge (Greeted from g)) (λ p h. tt)) (λ _. gives from (λ h. Know h.store.taken))
 takes_body from (Delta s) = join IsGentle (Acting (λ p h. Store (Merged s))) (λ _. bridge.TellsTaken from) (acting IsGentle (λ p h. Store (Merged s)) (λ p h. tt)) (λ _. gives from (λ h. Know h.store.taken))
 takes_body from (Know dots) = acting IsGentle (λ p h. Bridge (Believed from dots)) (λ p h. tt)
 takes_body from (Carried number m) =

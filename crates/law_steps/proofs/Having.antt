@@ -8,7 +8,7 @@ use Rattle.session_table.specs.Listing.{text_cmp}
 use Rattle.session_table.specs.Seats.{IsElsewhere, begun}
 use Rattle.node_work.specs.declared.counts.Missed.TheVariants.{TableRefused}
 use Rattle.node_work.specs.Acts.{Act, MomentTaken, Began, Moved, Store, Connection, Session, Bridge, Out, Named, Acknowledged, Passed, Dropped, Allowed, Runs, gather, moved_in, next}
-use Rattle.node_work.specs.Held.Bridge.{BridgeAct, Put, Took, Got, Believed, Gave, Left_out}
+use Rattle.node_work.specs.Held.Bridge.{BridgeAct, Put, Took, Got, Believed, Greeted, Gave, Left_out}
 use Rattle.node_work.specs.Held.Connections.{ConnectionAct, Opened, Fed, Accepted, Roomed, Closed}
 use Rattle.node_work.specs.Held.Sessions.{SessionAct, Begun, Called, Over, has_session}
 use Rattle.node_work.specs.View.{Place, HeldView}
@@ -63,6 +63,7 @@ bridge_was h (Put peer m) q has = has
 bridge_was h (Took peer number m copies lost) q has = has
 bridge_was h (Got peer number) q has = has
 bridge_was h (Believed peer dots) q has = has
+bridge_was h (Greeted peer g) q has = has
 bridge_was h (Gave f) q has = has
 bridge_was h (Left_out what) q has = has
 

@@ -9,7 +9,7 @@ use Rattle.law_sessions.specs.Runs.{Event, connects, queues, rooms, takes, answe
 use Rattle.session_table.specs.Listing.{text_cmp}
 use Rattle.session_table.specs.Seats.{Seat, Seats}
 use Rattle.node_work.specs.Acts.{Act, MomentTaken, Began, Moved, Store, Connection, Session, Bridge, Out, Named, Acknowledged, Passed, Dropped, Allowed, Runs, next}
-use Rattle.node_work.specs.Held.Bridge.{BridgeAct, Put, Took, Got, Believed, Gave, Left_out, bridged}
+use Rattle.node_work.specs.Held.Bridge.{BridgeAct, Put, Took, Got, Believed, Greeted, Gave, Left_out, bridged}
 use Rattle.node_work.specs.Held.Connections.{ConnectionTable, Closed, client_at}
 use Rattle.node_work.specs.Held.Sessions.{SessionStep, Begun, Called, Over, IsOn}
 use Rattle.node_work.specs.View.{Place, HeldView, ConnectionView}
@@ -89,6 +89,7 @@ bridge_gentle h (Put peer m) = record { connections = refl; live = live_in h (br
 bridge_gentle h (Took peer number m copies lost) = record { connections = refl; live = live_in h (bridged h (Took peer number m copies lost)) refl }
 bridge_gentle h (Got peer number) = record { connections = refl; live = live_in h (bridged h (Got peer number)) refl }
 bridge_gentle h (Believed peer dots) = record { connections = refl; live = live_in h (bridged h (Believed peer dots)) refl }
+bridge_gentle h (Greeted peer g) = record { connections = refl; live = live_in h (bridged h (Greeted peer g)) refl }
 bridge_gentle h (Gave f) = record { connections = refl; live = live_in h (bridged h (Gave f)) refl }
 bridge_gentle h (Left_out what) = record { connections = refl; live = live_in h (bridged h (Left_out what)) refl }
 

@@ -13,7 +13,7 @@ use Rattle.session_table.specs.Listing.{text_cmp}
 use Rattle.session_table.specs.Seats.{Seat, begun}
 use Rattle.node_work.specs.declared.outcome.Output.TheVariants.{Send, Close}
 use Rattle.node_work.specs.Acts.{Act, Connection, Session, Bridge, Out, Allowed, Runs, next}
-use Rattle.node_work.specs.Held.Bridge.{BridgeAct, Put, Took, Got, Believed, Gave, Left_out, bridged}
+use Rattle.node_work.specs.Held.Bridge.{BridgeAct, Put, Took, Got, Believed, Greeted, Gave, Left_out, bridged}
 use Rattle.node_work.specs.Held.Connections.{ConnectionTable, Closed, client_at}
 use Rattle.node_work.specs.Held.Sessions.{SessionStep, Begun, Called, Over, IsOn}
 use Rattle.node_work.specs.View.{Place, HeldView, ConnectionView}
@@ -174,6 +174,7 @@ bridge_kept h (Put peer m) on = record { connections = refl; on = on }
 bridge_kept h (Took peer number m copies lost) on = record { connections = refl; on = on }
 bridge_kept h (Got peer number) on = record { connections = refl; on = on }
 bridge_kept h (Believed peer dots) on = record { connections = refl; on = on }
+bridge_kept h (Greeted peer g) on = record { connections = refl; on = on }
 bridge_kept h (Gave f) on = record { connections = refl; on = on }
 bridge_kept h (Left_out what) on = record { connections = refl; on = on }
 

@@ -14,7 +14,7 @@ use Rattle.session_table.specs.Seats.{Seat, connected, ends_due, run_outs, wills
 use Rattle.node_work.specs.Acts.{Act, MomentTaken, Store, Connection, Bridge, Merged, Runs, next}
 use Rattle.node_work.specs.Calling.{Calls, CallsAt}
 use Rattle.node_work.specs.declared.counts.Missed.TheVariants.{BadFrame}
-use Rattle.node_work.specs.Held.Bridge.{Took, Got as GotBy, Believed, Gave, Left_out}
+use Rattle.node_work.specs.Held.Bridge.{Took, Got as GotBy, Believed, Greeted, Gave, Left_out}
 use Rattle.node_work.specs.Held.Connections.{ConnectionTable, Opened, Roomed, Closed, changed_at, client_at, is_open, new_connection, with_room}
 use Rattle.node_work.specs.Held.Sessions.{seat_at}
 use Rattle.node_work.specs.View.{Place, HeldView, ConnectionView}
@@ -190,6 +190,7 @@ mid_calm = record {
   took = λ from number m copies lost. acting IsCalm calm_kind (λ p h. Bridge (Took from number m copies lost)) (λ p h. tt);
   merged = λ s. acting IsCalm calm_kind (λ p h. Store (Merged s)) (λ p h. tt);
   believed = λ from dots. acting IsCalm calm_kind (λ p h. Bridge (Believed from dots)) (λ p h. tt);
+  greeted = λ from g. acting IsCalm calm_kind (λ p h. Bridge (Greeted from g)) (λ p h. tt);
   got = λ from number. acting IsCalm calm_kind (λ p h. Bridge (GotBy from number)) (λ p h. tt);
   bad = acting IsCalm calm_kind (λ p h. Bridge (Left_out BadFrame)) (λ p h. tt);
 }

@@ -8,7 +8,7 @@ use Rattle.node_rows.specs.Rows.{Lasting}
 use Rattle.node_work.specs.declared.counts.Missed.TheVariants.{TableRefused}
 use Rattle.node_work.specs.Acts.{Act, MomentTaken, Began, Moved, Store, Connection, Session, Bridge, Out, Named, Acknowledged, Passed, Dropped, Runs, next}
 use Rattle.node_work.specs.Doings.{Misses}
-use Rattle.node_work.specs.Held.Bridge.{BridgeAct, Put, Took, Got, Believed, Gave, Left_out, bridged}
+use Rattle.node_work.specs.Held.Bridge.{BridgeAct, Put, Took, Got, Believed, Greeted, Gave, Left_out, bridged}
 use Rattle.node_work.specs.Held.Connections.{ConnectionAct, Opened, Fed, Roomed, Accepted, Closed, after_connection_act, client_at, is_open}
 use Rattle.node_work.specs.Held.Sessions.{SessionAct, Begun, Called, Over, called}
 use Rattle.node_work.specs.Lasting.{IsWoken}
@@ -85,6 +85,7 @@ bridge_started h (Put peer m) = refl
 bridge_started h (Took peer number m copies lost) = refl
 bridge_started h (Got peer number) = refl
 bridge_started h (Believed peer dots) = refl
+bridge_started h (Greeted peer g) = refl
 bridge_started h (Gave f) = refl
 bridge_started h (Left_out what) = refl
 

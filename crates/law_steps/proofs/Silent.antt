@@ -21,7 +21,7 @@ use Rattle.node_work.specs.declared.outcome.Output.TheVariants.{Send, Close}
 use Rattle.node_work.specs.Acts.{Act, MomentTaken, Began, Moved, Store, Connection, Session, Bridge, Out, Named, Merged, Allowed, Runs, gather, heard_in, next}
 use Rattle.bridge_routes.specs.declared.plain.PlainCopy.{PlainCopy as Copy}
 use Rattle.node_work.specs.Calling.{Calls, Queues}
-use Rattle.node_work.specs.Held.Bridge.{BridgeAct, Put, Took, Got, Believed, Gave, Left_out}
+use Rattle.node_work.specs.Held.Bridge.{BridgeAct, Put, Took, Got, Believed, Greeted, Gave, Left_out}
 use Rattle.node_work.specs.Held.Connections.{ConnectionAct, Opened, Accepted, Roomed, Closed as Closed_at, Fed, after_connection_act}
 use Rattle.node_work.specs.Held.Sessions.{SessionAct, Begun, Called, Over, called}
 use Rattle.node_work.specs.View.{Place, HeldView}
@@ -169,6 +169,7 @@ silent_gives (Bridge (Left_out what)) s = refl
 silent_gives (Bridge (Took peer number m copies lost)) s = absurd s
 silent_gives (Bridge (Got peer number)) s = absurd s
 silent_gives (Bridge (Believed peer dots)) s = absurd s
+silent_gives (Bridge (Greeted peer g)) s = absurd s
 silent_gives (Bridge (Gave f)) s = absurd s
 silent_gives a s = refl
 
@@ -182,6 +183,7 @@ silent_hears (Bridge (Left_out what)) s = refl
 silent_hears (Bridge (Took peer number m copies lost)) s = absurd s
 silent_hears (Bridge (Got peer number)) s = absurd s
 silent_hears (Bridge (Believed peer dots)) s = absurd s
+silent_hears (Bridge (Greeted peer g)) s = absurd s
 silent_hears (Bridge (Gave f)) s = absurd s
 silent_hears a s = refl
 
@@ -312,6 +314,7 @@ took_act p h (Bridge (Left_out what)) s allowed = record { lanes = refl; took = 
 took_act p h (Bridge (Took peer number m copies lost)) s allowed = absurd s
 took_act p h (Bridge (Got peer number)) s allowed = absurd s
 took_act p h (Bridge (Believed peer dots)) s allowed = absurd s
+took_act p h (Bridge (Greeted peer g)) s allowed = absurd s
 took_act p h (Bridge (Gave f)) s allowed = absurd s
 took_act p h (Connection a) s allowed = alike_by h (after_connection_act h a) (connection_lanes h a)
 took_act p h (Session a) s allowed = alike_by h (called h a) (session_lanes h a)
@@ -334,6 +337,7 @@ silent_takes j (Bridge (Left_out what)) s = refl
 silent_takes j (Bridge (Took peer number m copies lost)) s = absurd s
 silent_takes j (Bridge (Got peer number)) s = absurd s
 silent_takes j (Bridge (Believed peer dots)) s = absurd s
+silent_takes j (Bridge (Greeted peer g)) s = absurd s
 silent_takes j (Bridge (Gave f)) s = absurd s
 silent_takes j a s = refl
 

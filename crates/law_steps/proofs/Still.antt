@@ -39,7 +39,7 @@ use Rattle.node_work.specs.Acts.{Acknowledged, Act, Bridge, Connection, Made, Me
 use Rattle.node_work.specs.Calling.{Calls, Queues}
 use Rattle.node_work.specs.Doings.{Disconnects, GivesBody, GivesFrame, MakesRemove, MakesRemoveBelow, MakesSubscribe, Misses, Removes, RemovesBelow, Sends, is_small}
 use Rattle.node_work.specs.Frames.{is_for_node, is_other}
-use Rattle.node_work.specs.Held.Bridge.{Believed, Gave, Got as GotBy, Took}
+use Rattle.node_work.specs.Held.Bridge.{Believed, Greeted, Gave, Got as GotBy, Took, hello_to}
 use Rattle.node_work.specs.Held.Connections.{Closed, Roomed, client_at, first_at, is_open}
 use Rattle.node_work.specs.Held.Making.{number_at_end, removal, removal_below}
 use Rattle.node_work.specs.Held.Sessions.{Begun, Over, connection_at, end_is_due, has_session, takes_disconnect, takes_packet, will_is_due}
@@ -333,8 +333,8 @@ gives peer body = looks IsStill (λ p h. record { from = p.id; to = peer; body =
 
 pub greets : (peer : ℕ) → Does (bridge.Greets peer)
 greets peer =
-    looks IsStill (λ p h. is_other p peer) (λ other. If other (GivesBody peer (λ h. Hello)) (Returns tt))
-    (λ other. by_test IsStill other (GivesBody peer (λ h. Hello)) (Returns tt) (gives peer (λ h. Hello)) (returns IsStill tt))
+    looks IsStill (λ p h. is_other p peer) (λ other. If other (GivesBody peer (hello_to peer)) (Returns tt))
+    (λ other. by_test IsStill other (GivesBody peer (hello_to peer)) (Returns tt) (gives peer (hello_to peer)) (returns IsStill tt))
 
 gives_state : (peer : ℕ) (s : Option State) → Does (bridge.GivesState peer s)
 gives_state peer None = returns IsStill tt
@@ -368,7 +368,7 @@ takes_next from number m =
     (λ next. by_test IsStill next (passing.TakesForward from number m) (Returns tt) (finds IsStill (passing.IsHandedOver m) (passing.TakesCopies from number m) (takes_copies from number m)) (returns IsStill tt))
 
 takes_body : (from : ℕ) (body : FrameBody) → Does (bridge.TakesBody from body)
-takes_body from Hello = gives from (λ h. Know h.store.taken)
+takes_body from (Hello g) = join IsStill (Acting (λ p h. Bridge (Greeted from g))) (λ _. bridge.TellsTaken from) (acting IsStill (λ p h. Bridge (Greeted from g)) (λ p h. tt)) (λ _. gives from (λ h. Know h.store.taken))
 takes_body from (Delta s) = join IsStill (Acting (λ p h. Store (Merged s))) (λ _. bridge.TellsTaken from) (acting IsStill (λ p h. Store (Merged s)) (λ p h. tt)) (λ _. gives from (λ h. Know h.store.taken))
 takes_body from (Know dots) = acting IsStill (λ p h. Bridge (Believed from dots)) (λ p h. tt)
 takes_body from (Carried number m) =

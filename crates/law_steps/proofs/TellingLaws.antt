@@ -13,7 +13,7 @@ use Rattle.subscription_set.specs.Standing.{any_below}
 use Rattle.node_work.specs.declared.outcome.Output.{Output}
 use Rattle.node_work.specs.declared.outcome.Output.TheVariants.{Send, Close, Frame as Release}
 use Rattle.node_work.specs.Acts.{Act, MomentTaken, Began, Moved, Store, Made, Connection, Session, Bridge, Out, Named, Acknowledged, Passed, Dropped, Runs}
-use Rattle.node_work.specs.Held.Bridge.{BridgeAct, Put, Took, Got, Believed, Gave, Left_out}
+use Rattle.node_work.specs.Held.Bridge.{BridgeAct, Put, Took, Got, Believed, Greeted, Gave, Left_out}
 use Rattle.node_work.specs.Held.Connections.{ConnectionAct, Opened, Fed, Accepted, Roomed, Closed}
 use Rattle.node_work.specs.Held.Making.{removal_below}
 use Rattle.node_work.specs.Held.Sessions.{Over, connection_at, seat_at, takes_packet}
@@ -84,6 +84,7 @@ module _ (p : Place) (client : List ℕ) (h mid : HeldView) (own : List Act) (g 
   bridge_back (Took peer number m copies lost) x = tt
   bridge_back (Got peer number) x = tt
   bridge_back (Believed peer dots) x = tt
+  bridge_back (Greeted peer g) x = tt
   bridge_back (Left_out what) x = tt
 
   act_back : (a : Act) → IsForThem p mid a → IsForThem p h a
@@ -128,6 +129,7 @@ module _ (p : Place) (client : List ℕ) (h : HeldView) (elsewhere : IsElsewhere
   bridge_for (Took peer number m copies lost) kind = absurd kind
   bridge_for (Got peer number) kind = absurd kind
   bridge_for (Believed peer dots) kind = absurd kind
+  bridge_for (Greeted peer g) kind = absurd kind
   bridge_for (Gave f) kind = absurd kind
 
   ending_for : (acts : List Act) → AllByRecursion (IsOfEnding client) acts → AllByRecursion (IsForThem p h) acts

@@ -31,7 +31,7 @@ use Rattle.node_work.specs.declared.outcome.Output.TheVariants.{Send, Close}
 use Rattle.node_work.specs.Acts.{Act, StoreAct, MomentTaken, Began, Moved, Store, Made, Merged, Connection, Session, Bridge, Out, Named, Acknowledged, Passed, Dropped, Runs, next}
 use Rattle.node_work.specs.Calling.{Calls}
 use Rattle.node_work.specs.Doings.{Sends, Disconnects, Redirects, Misses, MakesRemove, OpensConnection, Removes, GivesBody, GivesFrame, is_small}
-use Rattle.node_work.specs.Held.Bridge.{BridgeAct, Put, Took, Got as GotBy, Believed, Gave, Left_out}
+use Rattle.node_work.specs.Held.Bridge.{BridgeAct, Put, Took, Got as GotBy, Believed, Greeted, Gave, Left_out, hello_to}
 use Rattle.node_work.specs.Held.Connections.{Opened, Accepted, Closed as Shut, Fed, Roomed, is_open, client_at, first_at, room_at}
 use Rattle.node_work.specs.Held.Feeding.{cut_of}
 use Rattle.node_work.specs.Held.Making.{number_at_end, removal}
@@ -391,7 +391,7 @@ module _ (T : Property) (c : Closed T) (due_one : (p : Place) (h : HeldView) (a 
 
     greets : (peer : ℕ) → Keeps T (bridge.Greets peer)
     greets peer =
-        j_looks T c (λ p h. is_other p peer) (λ other. If other (GivesBody peer (λ h. Hello)) (Returns tt)) (λ other. j_if T c other (GivesBody peer (λ h. Hello)) (Returns tt) (gives peer (λ h. Hello)) (j_returns T c tt))
+        j_looks T c (λ p h. is_other p peer) (λ other. If other (GivesBody peer (hello_to peer)) (Returns tt)) (λ other. j_if T c other (GivesBody peer (hello_to peer)) (Returns tt) (gives peer (hello_to peer)) (j_returns T c tt))
 
     gives_state : (peer : ℕ) (s : Option State) → Keeps T (bridge.GivesState peer s)
     gives_state peer None = j_returns T c tt
@@ -419,7 +419,8 @@ module _ (T : Property) (c : Closed T) (due_one : (p : Place) (h : HeldView) (a 
         (λ next. j_if T c next (passing.TakesForward from number m) (Returns tt) (takes_forward from number m) (j_returns T c tt))
 
     takes_body : (from : ℕ) (body : FrameBody) → Keeps T (bridge.TakesBody from body)
-    takes_body from Hello = gives from (λ h. Know h.store.taken)
+    takes_body from (Hello g) =
+        j_then T c (Acting (λ p h. Bridge (Greeted from g))) (λ _. bridge.TellsTaken from) (acting (λ p h. Bridge (Greeted from g)) (λ p h. tt)) (λ _. gives from (λ h. Know h.store.taken))
     takes_body from (Delta s) =
         j_then T c (Acting (λ p h. Store (Merged s))) (λ _. bridge.TellsTaken from) (acting (λ p h. Store (Merged s)) (λ p h. tt)) (λ _. gives from (λ h. Know h.store.taken))
     takes_body from (Know dots) = acting (λ p h. Bridge (Believed from dots)) (λ p h. tt)

@@ -13,7 +13,7 @@ use Rattle.node_work.specs.Acts.{Act, MomentTaken, Began, Moved, Store, Connecti
 use Rattle.node_work.specs.Calling.{Calls}
 use Rattle.node_work.specs.Doings.{TakesMoment}
 use Rattle.node_work.specs.declared.counts.Missed.TheVariants.{BadFrame}
-use Rattle.node_work.specs.Held.Bridge.{Took, Got as GotBy, Believed, Gave, Left_out}
+use Rattle.node_work.specs.Held.Bridge.{Took, Got as GotBy, Believed, Greeted, Gave, Left_out}
 use Rattle.node_work.specs.Held.Connections.{Opened, Accepted, Roomed, Closed as Closed_at, Fed}
 use Rattle.node_work.specs.Held.Sessions.{Begun, Called}
 use Rattle.node_work.specs.Passing.{content_given}
@@ -74,6 +74,7 @@ mid = record {
   took = λ from number m copies lost. j_acting T c (λ p h. Bridge (Took from number m copies lost)) (λ p h. one_told p h (Bridge (Took from number m copies lost)) tt);
   merged = λ s. j_acting T c (λ p h. Store (Merged s)) (λ p h. one_told p h (Store (Merged s)) tt);
   believed = λ from dots. j_acting T c (λ p h. Bridge (Believed from dots)) (λ p h. one_told p h (Bridge (Believed from dots)) tt);
+  greeted = λ from g. j_acting T c (λ p h. Bridge (Greeted from g)) (λ p h. one_told p h (Bridge (Greeted from g)) tt);
   got = λ from number. j_acting T c (λ p h. Bridge (GotBy from number)) (λ p h. one_told p h (Bridge (GotBy from number)) tt);
   bad = j_acting T c (λ p h. Bridge (Left_out BadFrame)) (λ p h. one_told p h (Bridge (Left_out BadFrame)) tt);
 }

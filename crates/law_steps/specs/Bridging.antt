@@ -13,7 +13,7 @@ use Rattle.node_work.specs.declared.counts.Missed.TheVariants.{BadFrame, FrameTo
 use Rattle.node_work.specs.Acts.{Act, Store, Merged, Bridge, Runs}
 use Rattle.node_work.specs.Doings.{is_small}
 use Rattle.node_work.specs.Frames.{is_for_node, is_other}
-use Rattle.node_work.specs.Held.Bridge.{Took, Believed, Gave, Left_out, Got as GotBy}
+use Rattle.node_work.specs.Held.Bridge.{Took, Believed, Greeted, Gave, Left_out, Got as GotBy, hello_to}
 use Rattle.node_work.specs.View.{Place, HeldView}
 use Rattle.law_runs.specs.StepPublishing.{CopiesAreQueued}
 use Rattle.law_steps.specs.Frames.{answer_to, deltas_to, frame_to}
@@ -26,9 +26,10 @@ abbrev pub all_out : List BridgeFrame → List Act
 all_out fs = map_list gives_out fs
 
 -- ---- of its own accord
--- a link to another node of the cluster begins with Hello
-abbrev pub GreetsAlone : Place → ℕ → List Act → Type 0
-GreetsAlone p peer acts = acts ≡ cond (is_other p peer) (all_out (frame_to p peer Hello ∷ [])) []
+-- a link to another node of the cluster begins with a Hello: which of the messages for it are gone, the last message of its lane that was taken, and the
+-- dots that were taken
+abbrev pub GreetsAlone : Place → HeldView → ℕ → List Act → Type 0
+GreetsAlone p h peer acts = acts ≡ cond (is_other p peer) (all_out (frame_to p peer (hello_to peer h) ∷ [])) []
 
 -- a node is sent what it may lack of the state, unless it is known to have taken all; and then each of the first 64 messages that wait for it
 abbrev pub IsSentTo : Place → HeldView → ℕ → List Act → Type 0
@@ -54,10 +55,10 @@ pub record TakesOfLane (h : HeldView) (from number : ℕ) (m : Message) (acts : 
   pub is : acts ≡ Bridge (Took from number m copies lost) ∷ calls
   pub queued : CopiesAreQueued h.at copies calls
 
--- what a frame brings: a Hello nothing; a Delta a state, which is merged; a Know dots that its sender has taken; a Forward a message, where its number
+-- what a frame brings: a Hello and a Know dots that its sender has taken; a Delta a state, which is merged; a Forward a message, where its number
 -- is the next one of the lane; a Got the number of the last message that its sender has taken
 abbrev pub IsBrought : HeldView → ℕ → FrameBody → List Act → Type 0
-IsBrought h from Hello acts = acts ≡ []
+IsBrought h from (Hello g) acts = acts ≡ Bridge (Greeted from g) ∷ []
 IsBrought h from (Delta s) acts = acts ≡ Store (Merged s) ∷ []
 IsBrought h from (Know dots) acts = acts ≡ Bridge (Believed from dots) ∷ []
 IsBrought h from (Forward number m) acts = cond (is_next from number h.bridge) (TakesOfLane h from number m acts) (acts ≡ [])

@@ -12,7 +12,7 @@ use Rattle.replica_store.specs.States.{State}
 use Rattle.node_work.specs.Acts.{Act, Bridge, Runs, gather}
 use Rattle.node_work.specs.Doings.{is_small}
 use Rattle.node_work.specs.Frames.{is_for_node, is_other}
-use Rattle.node_work.specs.Held.Bridge.{BridgeAct, Gave}
+use Rattle.node_work.specs.Held.Bridge.{BridgeAct, Gave, hello_to}
 use Rattle.node_work.specs.View.{Place, HeldView}
 use Rattle.broker_node.specs.declared.event.Event.{Event}
 use Rattle.broker_node.specs.declared.event.EventKind.{EventKind}
@@ -56,7 +56,7 @@ MoreFrames p h peer after fs =
 -- ---- in answer to a frame
 -- the dots that the node has taken, or the number of the last message that it has taken of the sender's lane
 abbrev pub answer_to : HeldView → ℕ → FrameBody → List FrameBody
-answer_to h from Hello = Know h.store.taken ∷ []
+answer_to h from (Hello g) = Know h.store.taken ∷ []
 answer_to h from (Delta s) = Know h.store.taken ∷ []
 answer_to h from (Know dots) = []
 answer_to h from (Forward number m) = Got (lane_to h.bridge from).took ∷ []
@@ -70,7 +70,7 @@ answers_to p h (Some f) = cond (is_for_node p f) (those_small (map_list (frame_t
 -- ---- an event, by what the node holds once what is due is done, and what it holds at the end
 abbrev pub AreOfEvent : Place → HeldView → HeldView → EventKind → List BridgeFrame → Type 0
 AreOfEvent p h last (kinds.Frame bytes) fs = fs ≡ answers_to p last (frame_in bytes)
-AreOfEvent p h last (kinds.Linked peer) fs = fs ≡ cond (is_other p peer) (those_small (frame_to p peer Hello ∷ [])) []
+AreOfEvent p h last (kinds.Linked peer) fs = fs ≡ cond (is_other p peer) (those_small (frame_to p peer (hello_to peer h) ∷ [])) []
 AreOfEvent p h last (kinds.Ship peer) fs = cond (is_other p peer) (ShippedFrames p h peer fs) (fs ≡ [])
 AreOfEvent p h last (kinds.More peer after) fs = cond (is_other p peer) (MoreFrames p h peer after fs) (fs ≡ [])
 AreOfEvent p h last kind fs = fs ≡ []

@@ -1,5 +1,5 @@
-//! What becomes of a Know frame.
-ghost use Rattle.law_steps.specs.Knows.{KnowsAreBelieved, KnowsNameNodes};
+//! What becomes of a frame that says what its sender has taken.
+ghost use Rattle.law_steps.specs.Knows.{HellosAreBelieved, HellosNameNodes, KnowsAreBelieved, KnowsNameNodes};
 
 /// A Know frame that was released names none but nodes of the cluster. Once it comes to its receiver, another node than its sender, that
 /// has started, and that goes on, that node believes of the sender that it has taken these dots, beside those that it believed it to have
@@ -7,4 +7,11 @@ ghost use Rattle.law_steps.specs.Knows.{KnowsAreBelieved, KnowsNameNodes};
 pub fn knows_are_believed()
     ensures named { KnowsNameNodes }
     ensures believed { KnowsAreBelieved }
+{}
+
+/// So does a Hello, but that the node then believes of the sender that it has taken these dots and no others: what it believed before stood
+/// for an earlier link.
+pub fn hellos_are_believed()
+    ensures named { HellosNameNodes }
+    ensures believed { HellosAreBelieved }
 {}

@@ -9,6 +9,7 @@ use Rattle.row_store.specs.Leading.{AllDiffer, LeadWithin}
 use Rattle.row_store.specs.declared.row.Change.{Change}
 use Rattle.bridge_lanes.specs.Lanes.{Lanes, lane_of, with_put, with_took, with_got}
 use Rattle.bridge_frames.specs.declared.forward.Forward.{Forward}
+use Rattle.bridge_frames.specs.declared.greeting.Greeting.{Greeting}
 use Rattle.bridge_lanes.specs.Changes.{is_lane_kind}
 use Rattle.bridge_lanes.specs.Rows.{Messages, row_at}
 use Rattle.bridge_deltas.specs.declared.offer.Offer.{Offer}
@@ -52,6 +53,10 @@ keeps d b = record b { deltas = with_delta d b.deltas }
 -- a node has taken the dots
 abbrev pub believes : ℕ → Dots → BridgeView → BridgeView
 believes peer dots b = record b { beliefs = slice_set b.beliefs peer (set.union (belief_of b peer) dots) }
+
+-- a node says what it has taken, where a link begins: that stands in place of what was known of it
+abbrev pub greets : ℕ → Greeting → BridgeView → BridgeView
+greets peer g b = record b { beliefs = slice_set b.beliefs peer g.dots }
 
 -- what is sent of the state to a node: nothing exactly where it is known to have taken all
 abbrev pub IsToShip : ℕ → BridgeView → State → Option State → Type 0

@@ -1,16 +1,17 @@
 //! What a node keeps for the other nodes.
 ghost use Rattle.std.specs.Prelude.{◌≡◌, ◌<◌, ◌+◌, true, false, None, length, max, nat_lt, IfOk, IsOk, OnErr, OnOk, if◌then◌else◌};
 ghost use Rattle.std.specs.Option.{option_copied};
+ghost use Rattle.std.specs.FinSet as set;
 ghost use Rattle.causal_context.specs.SetLattice.{IsSubset};
 ghost use Rattle.bridge_deltas.specs.Lane.{first_frames, next_number};
 ghost use Rattle.bridge_deltas.specs.More.{frames_after};
 ghost use Rattle.bridge_deltas.specs.Links.{all_told};
 ghost use Rattle.bridge_lanes.specs.Changes.{now_of, told_of};
 ghost use Rattle.bridge_lanes.specs.Reading.{AreLanes};
-ghost use Rattle.node_bridge.specs.View.{IsToShip, LanesTell, belief_of, believes, gets, has_lanes, is_next, keeps, known_of, lane_to, offer_to, offered, takes};
+ghost use Rattle.node_bridge.specs.View.{IsToShip, LanesTell, belief_of, believes, gets, greets, has_lanes, is_next, keeps, known_of, lane_to, offer_to, offered, takes};
 
 use bridge_deltas::{Links, Offer};
-use bridge_frames::{BridgeFrame, Forward, LaneNumber};
+use bridge_frames::{BridgeFrame, Forward, Greeting, LaneNumber};
 use causal_context::Context;
 use mqtt_fields::NoMemory;
 use replica_store::ReplicaStore;
@@ -95,6 +96,20 @@ impl Bridge {
             return Ok(());
         }
         self.links.knows(peer, dots)
+    }
+
+    /// The peer says what it has, where a link begins. Where memory runs out nothing changes; a Hello of no dots takes none, nor does
+    /// that of a node that the cluster lacks.
+    pub fn greet(&mut self, peer: u16, greeting: &Greeting) -> Result<(), NoMemory>
+        ensures ok { OnOk result (self.new ≡ greets peer greeting.now self.old) }
+        ensures err { OnErr result (self.new ≡ self.old) }
+        ensures none { greeting.now.dots ≡ set.empty → IsOk result }
+        ensures lacking { has_lanes self.old peer ≡ false → IsOk result }
+    {
+        if peer >= self.links.nodes() {
+            return Ok(());
+        }
+        self.links.greets(peer, &greeting.dots)
     }
 
     /// What to send of the store to the peer, if there is anything that it isn't known to have taken: else it takes no memory.
@@ -182,6 +197,13 @@ impl Bridge {
         ensures { result ≡ (lane_to self.now peer).took }
     {
         self.links.last_taken(peer)
+    }
+
+    /// The number before that of the first message that waits for the peer.
+    pub fn last_gone(&self, peer: u16) -> LaneNumber
+        ensures { result ≡ (lane_to self.now peer).gone }
+    {
+        self.links.last_gone(peer)
     }
 
     /// Takes the message of the peer with this number, if it is the next, and appends the changes of rows. Only the next one takes

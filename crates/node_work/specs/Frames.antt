@@ -9,7 +9,7 @@ use Rattle.node_work.specs.View.{Place, nodes_of}
 
 -- what a frame says names none but nodes of the cluster: a state, or dots, may name others where it is forged
 abbrev pub names_nodes : ℕ → FrameBody → Bool
-names_nodes nodes Hello = true
+names_nodes nodes (Hello g) = dots_among nodes g.dots
 names_nodes nodes (Delta s) = state_among nodes s
 names_nodes nodes (Know dots) = dots_among nodes dots
 names_nodes nodes (Forward number m) = true
@@ -24,7 +24,7 @@ abbrev pub is_other : Place → ℕ → Bool
 is_other p peer = not (nat_eq peer p.id) && nat_lt peer (nodes_of p)
 
 abbrev pub states_in : FrameBody → List State
-states_in Hello = []
+states_in (Hello g) = []
 states_in (Delta s) = s ∷ []
 states_in (Know dots) = []
 states_in (Forward number m) = []

@@ -22,7 +22,7 @@ frame_name Forward = codes "forward"
 frame_name Got = codes "got"
 
 abbrev pub frame_kind : FrameBody → FrameKind
-frame_kind bodies.Hello = Hello
+frame_kind (bodies.Hello g) = Hello
 frame_kind (bodies.Delta state) = Delta
 frame_kind (bodies.Know dots) = Know
 frame_kind (bodies.Forward number m) = Forward

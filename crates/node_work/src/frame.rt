@@ -49,7 +49,7 @@ pub(crate) fn kind_of(body: &FrameBody) -> FrameKind
     ensures { result ≡ frame_kind body.now }
 {
     match body {
-        FrameBody::Hello => FrameKind::Hello,
+        FrameBody::Hello(_) => FrameKind::Hello,
         FrameBody::Delta(_) => FrameKind::Delta,
         FrameBody::Know(_) => FrameKind::Know,
         FrameBody::Forward(_, _) => FrameKind::Forward,

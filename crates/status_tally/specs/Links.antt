@@ -11,10 +11,10 @@ new_link = record { up = false; since = 0; first = 0; told = false }
 abbrev pub link_at : ℕ → List Link → Link
 link_at peer links = slice_index_or links peer new_link
 
--- the node that sends a frame, and whether it tells in it what it has taken, or brings some of it: behind the length, in four bytes, stand the kind, which is 3 (Know) or
--- 6 (Delta) then, and the sender in two bytes
+-- the node that sends a frame, and whether it tells in it what it has taken, or brings some of it: behind the length, in four bytes, stand the kind, which is 3 (Know),
+-- 6 (Delta) or 7 (Hello) then, and the sender in two bytes
 abbrev pub head_of : List ℕ → Option (ℕ × Bool)
-head_of (_ ∷ _ ∷ _ ∷ _ ∷ kind ∷ high ∷ low ∷ rest) = Some (high * 256 + low, kind == 3 || kind == 6)
+head_of (_ ∷ _ ∷ _ ∷ _ ∷ kind ∷ high ∷ low ∷ rest) = Some (high * 256 + low, kind == 3 || kind == 6 || kind == 7)
 head_of _ = None
 
 -- a link is begun anew: one that was up has failed by then

@@ -13,6 +13,9 @@ const KNOW: u8 = 3;
 /// That of one that brings operations.
 const DELTA: u8 = 6;
 
+/// The kind of a frame that says it where a link begins.
+const HELLO: u8 = 7;
+
 /// For so many milliseconds after its first frame a peer may have something to bring.
 const SOON: u64 = 1000;
 
@@ -60,7 +63,7 @@ fn head_of(frame: &[u8]) -> Option<(u16, bool)>
     match frame {
         [_, _, _, _, kind, high, low, ..] => {
             let sender = u16::from(*high) * 256 + u16::from(*low);
-            Some((sender, *kind == KNOW || *kind == DELTA))
+            Some((sender, *kind == KNOW || *kind == DELTA || *kind == HELLO))
         }
         _ => None,
     }

@@ -8,18 +8,40 @@ use std::alloc::Global;
 use std::process::Abort;
 
 /// Frames that come to node 0 of two, and none of which is for it from the other one.
-const BAD: [(&str, &[u8]); 14] = [
-    ("Hello of node 0 for node 1", b"\0\0\0\x05\x01\0\0\0\x01"),
-    ("Hello of node 1 for itself", b"\0\0\0\x05\x01\0\x01\0\x01"),
-    ("Hello of node 0 for itself", b"\0\0\0\x05\x01\0\0\0\0"),
-    ("Hello of node 2", b"\0\0\0\x05\x01\0\x02\0\0"),
+const BAD: [(&str, &[u8]); 18] = [
+    (
+        "Hello of node 0 for node 1",
+        b"\0\0\0\x1b\x07\0\0\0\x01\0\x01\0\0\0\0\0\0\0\0\0\0\0\0\0\0\0\0\0\0\0\0",
+    ),
+    (
+        "Hello of node 1 for itself",
+        b"\0\0\0\x1b\x07\0\x01\0\x01\0\x01\0\0\0\0\0\0\0\0\0\0\0\0\0\0\0\0\0\0\0\0",
+    ),
+    (
+        "Hello of node 0 for itself",
+        b"\0\0\0\x1b\x07\0\0\0\0\0\x01\0\0\0\0\0\0\0\0\0\0\0\0\0\0\0\0\0\0\0\0",
+    ),
+    (
+        "Hello of node 2",
+        b"\0\0\0\x1b\x07\0\x02\0\0\0\x01\0\0\0\0\0\0\0\0\0\0\0\0\0\0\0\0\0\0\0\0",
+    ),
     ("no bytes", b""),
-    ("a Hello one byte short", b"\0\0\0\x05\x01\0\x01\0"),
+    (
+        "a Hello one byte short",
+        b"\0\0\0\x1b\x07\0\x01\0\0\0\x01\0\0\0\0\0\0\0\0\0\0\0\0\0\0\0\0\0\0\0",
+    ),
     (
         "a Hello with a byte behind it",
-        b"\0\0\0\x06\x01\0\x01\0\0\0",
+        b"\0\0\0\x1c\x07\0\x01\0\0\0\x01\0\0\0\0\0\0\0\0\0\0\0\0\0\0\0\0\0\0\0\0\0",
     ),
-    ("no kind of frame", b"\0\0\0\x05\x07\0\x01\0\0"),
+    ("a Hello without a body", b"\0\0\0\x05\x07\0\x01\0\0"),
+    (
+        "a Hello in another format",
+        b"\0\0\0\x1b\x07\0\x01\0\0\0\x02\0\0\0\0\0\0\0\0\0\0\0\0\0\0\0\0\0\0\0\0",
+    ),
+    ("a Hello with a number at the end", END),
+    ("a Hello of a dot of node 2", HELLO_OF_TWO),
+    ("no kind of frame", b"\0\0\0\x05\x08\0\x01\0\0"),
     ("the kind of a Delta without versions", UNVERSIONED),
     ("a Know of a dot of node 2", KNOW),
     ("a Delta that has taken a dot of node 2", TAKEN),
@@ -27,6 +49,13 @@ const BAD: [(&str, &[u8]); 14] = [
     ("a Delta with a stamp of node 2", STAMP),
     ("a Delta that has taken a dot and not seen it", UNSEEN),
 ];
+
+/// The number 2^62 in a Hello from node 1 to node 0.
+const END: &[u8] = b"\0\0\0\x1b\x07\0\x01\0\0\0\x01\x40\0\0\0\0\0\0\0\0\0\0\0\0\0\0\0\0\0\0\0";
+
+/// The dot (2, 1) in a Hello from node 1 to node 0.
+const HELLO_OF_TWO: &[u8] = b"\0\0\0\x2d\x07\0\x01\0\0\0\x01\0\0\0\0\0\0\0\0\0\0\0\0\0\0\0\0\
+    \0\0\0\x01\0\x02\0\0\0\0\0\0\0\x01\0\0\0\0\0\0\0\x01";
 
 /// A state of nothing, from node 1 to node 0, under kind 2.
 const UNVERSIONED: &[u8] = b"\0\0\0\x15\x02\0\x01\0\0\0\0\0\0\0\0\0\0\0\0\0\0\0\0\0\0";
@@ -58,7 +87,7 @@ const UNSEEN: &[u8] = b"\0\0\0'\x06\0\x01\0\0\
     \0\0\0\x01\0\x01\0\0\0\0\0\0\0\x01\0\0\0\0\0\0\0\x01\0\0\0\0\0\0\0\0\0\0\0\0";
 
 /// Hello of node 1 for node 0.
-const HELLO: &[u8] = b"\0\0\0\x05\x01\0\x01\0\0";
+const HELLO: &[u8] = b"\0\0\0\x1b\x07\0\x01\0\0\0\x01\0\0\0\0\0\0\0\0\0\0\0\0\0\0\0\0\0\0\0\0";
 
 /// How many outputs a frame comes to, and how many frames have been counted then.
 fn taken(
@@ -80,8 +109,42 @@ fn a_frame_for_another_node_is_counted_and_changes_nothing(rt: HostRuntime) {
         let found = taken(&rt, alloc, &mut keeper, bytes);
         assert_eq!(rt; found, (0, count), "{name}");
     }
-    assert_eq!(rt; taken(&rt, alloc, &mut keeper, HELLO), (1, 14));
+    assert_eq!(rt; taken(&rt, alloc, &mut keeper, HELLO), (1, 18));
     let again = opened(&rt, alloc, keeper.into_rows(), 0);
     assert_eq!(rt; again.node().counts().bad_frames, 0);
     drop(again);
+}
+
+/// A state that has taken (1, 1), and seen it, of no message to `t`, from node 1 to node 0.
+const CLEARED: &[u8] = b"\0\0\0\x47\x06\0\x01\0\0\
+    \0\0\0\x01\0\x01\0\0\0\0\0\0\0\x01\0\0\0\0\0\0\0\x01\
+    \0\0\0\x01\0\x01\0\0\0\0\0\0\0\x01\0\0\0\0\0\0\0\x01\
+    \0\0\0\0\0\0\0\x01\0\x01t\0\0\0\0\0\0\0\x01\0\x01\0";
+
+/// The dot (1, 1), in a Know and in a Hello from node 1 to node 0.
+const TAKEN_THERE: &[u8] = b"\0\0\0\x1b\x03\0\x01\0\0\
+    \0\0\0\x01\0\x01\0\0\0\0\0\0\0\x01\0\0\0\0\0\0\0\x01";
+
+const SAID: &[u8] = b"\0\0\0\x2d\x07\0\x01\0\0\0\x01\0\0\0\0\0\0\0\0\0\0\0\0\0\0\0\0\
+    \0\0\0\x01\0\x01\0\0\0\0\0\0\0\x01\0\0\0\0\0\0\0\x01";
+
+#[test]
+fn a_hello_stands_in_place_of_what_was_known(rt: HostRuntime) {
+    let alloc = rt.alloc();
+    let mut keeper = opened(&rt, alloc, MemoryRows::new(alloc), 0);
+    assert_eq!(rt; outputs(&rt, &mut keeper, EventKind::Started), 0);
+    assert_eq!(rt; taken(&rt, alloc, &mut keeper, CLEARED), (1, 0));
+    // how many frames answer, and whether the other node is sent the state then
+    for (bytes, answers, sent) in [
+        (HELLO, 1, 1),
+        (TAKEN_THERE, 0, 0),
+        (HELLO, 1, 1),
+        (SAID, 1, 0),
+        (HELLO, 1, 1),
+    ] {
+        assert_eq!(rt; taken(&rt, alloc, &mut keeper, bytes), (answers, 0));
+        let shipped = outputs(&rt, &mut keeper, EventKind::Ship { peer: 1 });
+        assert_eq!(rt; shipped, sent);
+    }
+    drop(keeper);
 }

@@ -1,11 +1,15 @@
 //! Worked examples of docs/cluster.md.
 
 use bridge_frames::{BridgeFrame, Forward, FrameBody, LinkFault, frame_length};
+use causal_context::{Context, Dot};
 use std::alloc::Global;
 use std::process::Abort;
 
-/// Hello from node 0 to node 1.
-const HELLO: [u8; 9] = [0, 0, 0, 5, 1, 0, 0, 0, 1];
+/// A Hello of node 0 for node 1: the messages up to 2 are gone, the one under 3 was taken, and the dots (1, 1) and (1, 2).
+const HELLO: [u8; 49] = [
+    0, 0, 0, 45, 7, 0, 0, 0, 1, 0, 1, 0, 0, 0, 0, 0, 0, 0, 2, 0, 0, 0, 0, 0, 0, 0, 3, 0, 0, 0, 1,
+    0, 1, 0, 0, 0, 0, 0, 0, 0, 1, 0, 0, 0, 0, 0, 0, 0, 2,
+];
 
 /// A message under number 1 from node 1 to node 0, for plain subscriptions and for `a` in `$share/g/t`: `x` under `t`, by `a`,
 /// at QoS 1.
@@ -80,23 +84,34 @@ fn got_is_below_the_end(rt: HostRuntime) {
     drop((frame, copy));
 }
 
+/// Whether the dot of node 1 with this number is there.
+fn has(dots: &Context, number: u64) -> bool {
+    Dot::new(1, number).is_some_and(|dot| dots.contains(dot))
+}
+
 fn is_hello(frame: &BridgeFrame) -> bool {
-    frame.from == 0 && frame.to == 1 && matches!(frame.body, FrameBody::Hello)
+    let FrameBody::Hello(greeting) = &frame.body else {
+        return false;
+    };
+    let numbers = (greeting.gone.get(), greeting.took.get());
+    let dots = has(&greeting.dots, 2) && !has(&greeting.dots, 3);
+    frame.from == 0 && frame.to == 1 && numbers == (2, 3) && dots
 }
 
 #[test]
 fn hello_both_ways(rt: HostRuntime) {
     let alloc = rt.alloc();
-    let hello = BridgeFrame {
-        from: 0,
-        to: 1,
-        body: FrameBody::Hello,
-    };
-    assert!(rt; written(&rt, alloc, &hello).as_slice() == HELLO.as_slice());
     let read = read(&rt, alloc, &HELLO);
     assert!(rt; is_hello(&read));
-    assert!(rt; is_bad(alloc, &HELLO[..8]));
-    drop((hello, read));
+    let copy = read.copy(alloc).expect(&rt, "memory");
+    assert!(rt; written(&rt, alloc, &copy).as_slice() == HELLO.as_slice());
+    assert!(rt; is_bad(alloc, &HELLO[..48]));
+    // in another format, and of the kind that Hello had without a body
+    let mut other = HELLO;
+    other[10] = 2;
+    assert!(rt; is_bad(alloc, &other));
+    assert!(rt; is_bad(alloc, &[0, 0, 0, 5, 1, 0, 0, 0, 1]));
+    drop((read, copy));
 }
 
 /// The number and the message of a Forward.

@@ -6,8 +6,15 @@ use std::alloc::Global;
 use std::process::Abort;
 
 /// What frames say, and their bytes in hexadecimal.
-const FRAMES: [(&str, &str); 13] = [
-    ("Hello", "00000005 01 0000 0001"),
+const FRAMES: [(&str, &str); 14] = [
+    (
+        "a Hello of nothing",
+        "0000001b 07 0000 0001 0001 0000000000000000 0000000000000000 00000000",
+    ),
+    (
+        "a Hello where the messages up to 2 are gone, the one under 3 was taken, and (1, 1) and (1, 2)",
+        "0000002d 07 0000 0001 0001 0000000000000002 0000000000000003 00000001 0001 0000000000000001 0000000000000002",
+    ),
     ("a Know of no dot", "00000009 03 0001 0000 00000000"),
     (
         "a Know of (1, 1) and (1, 2)",

@@ -91,7 +91,7 @@ fn only_links_that_are_told_are_read(rt: HostRuntime) -> Result<(), Fail> {
 }
 
 /// A Hello of node 0, which is the peer.
-const HEARD: &[u8] = b"\0\0\0\x05\x01\0\0\0\x01";
+const HEARD: &[u8] = b"\0\0\0\x05\x07\0\0\0\x01";
 
 /// So many turns of a node with one peer, which has begun a link and says Hello there, each so many milliseconds after the one before. The peer's link is the first
 /// stream, and the second is the one that is dialled first.
@@ -169,7 +169,7 @@ const LAST: &[u8] = b"\0\0\0\x0d\x04\0\x01\0\0\0\0\0\0\0\0\x40\0";
 
 const DELTA: &[u8] = b"\0\0\0\x05\x06\0\x01\0\0";
 
-const HELLO: &[u8] = b"\0\0\0\x05\x01\0\x01\0\0";
+const HELLO: &[u8] = b"\0\0\0\x05\x07\0\x01\0\0";
 
 /// Gots of node 0, which is the peer, and a Know.
 const GOT_ONE: &[u8] = b"\0\0\0\x0d\x05\0\0\0\x01\0\0\0\0\0\0\0\x01";
@@ -221,9 +221,9 @@ fn a_peer_is_given_nothing_before_it_is_heard(rt: HostRuntime) -> Result<(), Fai
     // nothing, Hellos of node 1 and node 256, and one that isn't whole
     let others = [
         b"".as_slice(),
-        b"\0\0\0\x05\x01\0\x01\0\0",
-        b"\0\0\0\x05\x01\x01\0\0\0",
-        b"\0\0\0\x05\x01\0\0\0",
+        b"\0\0\0\x05\x07\0\x01\0\0",
+        b"\0\0\0\x05\x07\x01\0\0\0",
+        b"\0\0\0\x05\x07\0\0\0",
     ];
     for first in others {
         assert!(rt; supplied_once(&rt, alloc, SEVENTH, first, b"", 2000) == (0, 0, 0));
@@ -270,7 +270,7 @@ fn a_silent_peer_is_given_all_after_a_second(rt: HostRuntime) -> Result<(), Fail
         b"\0\0\0\x05\x05\x01\0\0\0",
         b"\0\0\0\x02\x05\0",
         b"\0\0\0\x05\x05\0\0\0",
-        b"\0\0\0\x05\x01\0\0\0\x01",
+        b"\0\0\0\x05\x07\0\0\0\x01",
         b"\0\0\0\x05\x04\0\0\0\x01",
         b"\0\0\0\x05\x06\0\0\0\x01",
     ];

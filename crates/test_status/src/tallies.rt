@@ -117,23 +117,23 @@ fn peers_are_away_since_their_link_failed(rt: HostRuntime) {
 fn peers_are_heard_once_they_tell_what_they_have(rt: HostRuntime) {
     let alloc = rt.alloc();
     let mut door = door(&rt, alloc);
-    // Hello of node 2 and of node 1, and a Know of node 1 with no dots
+    // Gots of node 2 and of node 1, as far as it looks at them, and a Hello of node 1
     for (at, frame, first, second) in [
         (
             10,
-            b"\x00\x00\x00\x05\x01\x00\x02\x00\x00".as_slice(),
+            b"\x00\x00\x00\x05\x05\x00\x02\x00\x00".as_slice(),
             false,
             false,
         ),
         (
             20,
-            b"\x00\x00\x00\x05\x01\x00\x01\x00\x00".as_slice(),
+            b"\x00\x00\x00\x05\x05\x00\x01\x00\x00".as_slice(),
             false,
             false,
         ),
         (
             30,
-            b"\x00\x00\x00\x09\x03\x00\x01\x00\x00\x00\x00\x00\x00".as_slice(),
+            b"\x00\x00\x00\x05\x07\x00\x01\x00\x00".as_slice(),
             true,
             false,
         ),

@@ -8,8 +8,15 @@ use std::process::Abort;
 use trial_streams::{Said, Stage, Told};
 
 /// What frames say, and their bytes in hexadecimal: those of the examples of `test_replicas`.
-const FRAMES: [(&str, &str); 13] = [
-    ("Hello", "00000005 01 0000 0001"),
+const FRAMES: [(&str, &str); 14] = [
+    (
+        "a Hello of nothing",
+        "0000001b 07 0000 0001 0001 0000000000000000 0000000000000000 00000000",
+    ),
+    (
+        "a Hello where the messages up to 2 are gone, the one under 3 was taken, and (1, 1) and (1, 2)",
+        "0000002d 07 0000 0001 0001 0000000000000002 0000000000000003 00000001 0001 0000000000000001 0000000000000002",
+    ),
     ("a Know of no dot", "00000009 03 0001 0000 00000000"),
     (
         "a Know of (1, 1) and (1, 2)",
@@ -83,7 +90,7 @@ struct Sent {
 /// A Hello and a Delta are answered by a Know, a Forward by a Got.
 fn answers_of(body: &FrameBody) -> usize {
     match body {
-        FrameBody::Hello | FrameBody::Delta(_) | FrameBody::Forward(_, _) => 1,
+        FrameBody::Hello(_) | FrameBody::Delta(_) | FrameBody::Forward(_, _) => 1,
         FrameBody::Know(_) | FrameBody::Got(_) => 0,
     }
 }
@@ -92,6 +99,7 @@ fn answers_of(body: &FrameBody) -> usize {
 fn is_known(body: &FrameBody) -> bool {
     match body {
         FrameBody::Delta(state) => is_state_among(2, state),
+        FrameBody::Hello(greeting) => are_dots_among(2, &greeting.dots),
         FrameBody::Know(dots) => are_dots_among(2, dots),
         _ => true,
     }

@@ -1,7 +1,7 @@
 //! What is done to what a node keeps for the other nodes.
 
 ghost use Rattle.std.specs.Prelude.{◌≡◌, true, IfErr, IfOk, OnOk};
-ghost use Rattle.node_bridge.specs.View.{LanesTell, believes, gets, is_next, offer_to, offered, takes};
+ghost use Rattle.node_bridge.specs.View.{LanesTell, believes, gets, greets, is_next, offer_to, offered, takes};
 ghost use Rattle.node_work.specs.Held.Bridge.{missed};
 ghost use Rattle.node_work.specs.Held.Sessions.{more};
 ghost use Rattle.node_work.specs.declared.fault.NodeFault.TheVariants.{NoMemory};
@@ -10,7 +10,7 @@ use crate::counts::Missed;
 use crate::fault::NodeFault;
 use crate::held::Held;
 use bridge_deltas::Offer;
-use bridge_frames::{Forward, LaneNumber};
+use bridge_frames::{Forward, Greeting, LaneNumber};
 use causal_context::Context;
 use row_store::Change;
 
@@ -71,6 +71,15 @@ impl Held {
         ensures fault { IfErr result (λ e. e ≡ NoMemory) }
     {
         self.bridge.believe(peer, dots)?;
+        Ok(())
+    }
+
+    /// Another node says what it has, where a link begins.
+    pub fn greet(&mut self, peer: u16, greeting: &Greeting) -> Result<(), NodeFault>
+        ensures ok { OnOk result (self.new ≡ record self.old { bridge = greets peer greeting.now self.old.bridge }) }
+        ensures fault { IfErr result (λ e. e ≡ NoMemory) }
+    {
+        self.bridge.greet(peer, greeting)?;
         Ok(())
     }
 

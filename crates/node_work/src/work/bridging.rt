@@ -7,7 +7,7 @@ ghost use Rattle.node_bridge.specs.View.{is_next};
 ghost use Rattle.node_work.specs.Acts.{Bridge};
 ghost use Rattle.node_work.specs.Doings.{GivesFrame, Misses, PutsInLane, RoutesBy};
 ghost use Rattle.node_work.specs.Handed.{IsHanded};
-ghost use Rattle.node_work.specs.Held.Bridge.{Believed, Carries, Got, Took};
+ghost use Rattle.node_work.specs.Held.Bridge.{Believed, Carries, Got, Greeted, Took};
 ghost use Rattle.node_work.specs.Working.{ComesTo, Acting};
 
 use crate::counts::Missed;
@@ -16,7 +16,7 @@ use crate::frame::written_frame;
 use crate::outcome::Output;
 use crate::work::Work;
 use bridge_deltas::Offer;
-use bridge_frames::{BridgeFrame, Forward, LaneNumber, LinkFault};
+use bridge_frames::{BridgeFrame, Forward, Greeting, LaneNumber, LinkFault};
 use bridge_routes::Route;
 use causal_context::Context;
 
@@ -76,6 +76,14 @@ impl Work {
         ensures same { self.new.changes ≡ self.old.changes }
     {
         self.held.believe(peer, dots)
+    }
+
+    /// Another node says what it has, where a link begins.
+    pub fn greet(&mut self, peer: u16, greeting: &Greeting) -> Result<(), NodeFault>
+        ensures comes { ComesTo (λ x. x) result self.old self.new (Acting (λ p h. Bridge (Greeted peer greeting.now))) }
+        ensures same { self.new.changes ≡ self.old.changes }
+    {
+        self.held.greet(peer, greeting)
     }
 
     /// Takes the next message of another node's lane, with its copies, of which so many picks are lost.

@@ -1,7 +1,7 @@
-use Rattle.std.proofs.Common.{refl, sym, ◌∙◌}
-use Rattle.bridge_frames.specs.declared.body.FrameBody.TheVariants.{Hello}
+use Rattle.std.proofs.Common.{sym, ◌∙◌}
 use Rattle.node_work.specs.Doings.{GivesBody}
 use Rattle.node_work.specs.Frames.{is_other}
+use Rattle.node_work.specs.Held.Bridge.{hello_to}
 use Rattle.node_work.specs.Working.{Returns}
 use Rattle.node_work.proofs.Working.{comes_when}
 use Rattle.broker_node.proofs.bridge.greet.Goals as goal
@@ -9,5 +9,5 @@ use Rattle.broker_node.proofs.bridge.greet.Goals as goal
 pub returns-clause-comes : goal.returns-clause-comes
 returns-clause-comes c =
     let peer = c.args.peer in
-    comes_when (λ x. x) c.give.result c.args.work.now c.give.new.work (λ p h. is_other p peer) (GivesBody peer (λ h. Hello)) (Returns tt) (sym c.is_other.ensures ∙ c.if-not-is_other.false)
-    (c.give.ensures (λ h. Hello) refl)
+    comes_when (λ x. x) c.say_hello.result c.args.work.now c.say_hello.new.work (λ p h. is_other p peer) (GivesBody peer (hello_to peer)) (Returns tt) (sym c.is_other.ensures ∙ c.if-not-is_other.false)
+    c.say_hello.ensures
