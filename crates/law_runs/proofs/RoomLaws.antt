@@ -15,10 +15,12 @@ use Rattle.mqtt_sessions.specs.declared.reaction.Ask.TheVariants.{Pass}
 use Rattle.mqtt_sessions.specs.Aliases as aliases
 use Rattle.mqtt_sessions.specs.Answers.{puback, pubrec}
 use Rattle.mqtt_sessions.specs.Reaction.{Reaction}
-use Rattle.mqtt_sessions.specs.State.{Link, State as SessionState, new_session}
+use Rattle.mqtt_sessions.specs.State.{Link, State as SessionState, aliases_of, new_session}
+use Rattle.law_sessions.specs.Aliases.{topic_under, topics_told}
 use Rattle.law_sessions.specs.Replies.{Reply, reaction_of}
-use Rattle.law_sessions.specs.Runs.{Step, Reacts, takes, Run as SessionRun}
+use Rattle.law_sessions.specs.Runs.{Step, Reacts, connected_after, takes, Run as SessionRun}
 use Rattle.law_sessions.proofs.AliasLaws.{held}
+use Rattle.law_sessions.proofs.LiftLaws.{connected_over as lifted_over, whole}
 use Rattle.law_sessions.proofs.ReplyLaws.{keeps_unheard, replies_by_link, told-under}
 use Rattle.session_table.specs.Seats.{Seat}
 use Rattle.replica_store.specs.declared.kept.Kept.{Kept}
@@ -38,9 +40,9 @@ use Rattle.cluster_play.specs.Histories.{Reached, site, acts_of, operations_amid
 use Rattle.cluster_play.proofs.Lives.{sessions_are_runs_amid}
 use Rattle.cluster_play.proofs.Showing.{node_holds_amid}
 use Rattle.law_runs.specs.Staying.{CallsSession}
-use Rattle.law_runs.specs.Publishing.{TakesPublish, events_before}
+use Rattle.law_runs.specs.Publishing.{TakesPublish, connected_over, events_before}
 use Rattle.law_runs.proofs.Staying.{CalledAt, called_at}
-use Rattle.law_runs.specs.Rooms.{IsTopicHeld, HoldsTopics, LacksRoomForTopic, HasRoomForTopic, message_taken, QuotaIsExact, PassedHasRoom, RoomIsExact}
+use Rattle.law_runs.specs.Rooms.{IsTopicHeld, HoldsTopics, LacksRoomForTopic, HasRoomForTopic, message_taken, topics_open, QuotaIsExact, PassedHasRoom, RoomIsExact}
 use Rattle.law_runs.proofs.Quotas.{is_quota, quota_refuses, refused_asks}
 use Rattle.law_runs.proofs.Rooming.{room_is_told}
 
@@ -189,25 +191,44 @@ quota_is_exact = λ run later m w r before c qos id t name number g. quota run l
 pub passed_has_room : PassedHasRoom
 passed_has_room = λ run later m w r before c qos id t name x asks retained. passed run later m w r before c qos id t name x asks retained
 
--- ---- also where nothing is answered
-own_topic : (known : aliases.Aliases) (p : Publish) → p.topic ≢ [] → (aliases.filled known p).topic ≡ p.topic
-own_topic known p some = by p.topic refl some
-  where
-    by : (t : List ℕ) → p.topic ≡ t → t ≢ [] → (aliases.filled known p).topic ≡ p.topic
-    by [] is none = absurd (none refl)
-    by (b ∷ bs) is none = ap (λ t. unwrap_or (aliases.topic_by t (aliases.alias_of p) known) []) is ∙ sym is
-
+-- ---- of each PUBLISH, also where nothing is answered
 room_exactly : (O : List Operation) (s : State) → IsStateOf O s → (topic : List ℕ) (room : Bool) → has_room topic s ≡ room → cond room (HasRoomForTopic O topic) (LacksRoomForTopic O topic)
 room_exactly O s is topic true e = has_room_if O s is topic e
 room_exactly O s is topic false e = lacks_room_if O s is topic e
 
+-- whether the connection is open, by the events
+same_over : (on : Bool) (steps : List Step) → lifted_over on steps ≡ connected_over on steps
+same_over on [] = refl
+same_over on (s ∷ ss) = same_over (connected_after on s.event s.reaction) ss
+
+-- without an alias that stands for a topic a PUBLISH has its own
+none_under : (topic : List ℕ) (alias : Option ℕ) → aliases.topic_by topic alias [] ≡ topic_under (λ a. None) topic alias
+none_under [] None = refl
+none_under [] (Some alias) = refl
+none_under (b ∷ bs) alias = refl
+
+-- the topic that a session looks at is the one that the packets of its connection told
+topic_seen : (client : List ℕ) (steps : List Step) (session : SessionState) (p : Publish) → SessionRun (new_session client) steps session → (o : Option Link) → session.link ≡ o
+    → aliases.topic_of (aliases_of session.link) p ≡ topic_under (topics_open steps) p.topic (aliases.alias_of p)
+topic_seen client steps session p runs None e =
+    let open_is : connected_over false steps ≡ false = sym (same_over false steps) ∙ (whole client steps session runs).connected ∙ ap (λ (o : Option Link). is_some o) e in
+    ap (λ (o : Option Link). aliases.topic_of (aliases_of o) p) e ∙ none_under p.topic (aliases.alias_of p) ∙ ap (λ b. topic_under (cond b (topics_told steps) (λ a. None)) p.topic (aliases.alias_of p)) (sym open_is)
+topic_seen client steps session p runs (Some l) e =
+    let open_is : connected_over false steps ≡ true = sym (same_over false steps) ∙ (whole client steps session runs).connected ∙ ap (λ (o : Option Link). is_some o) e in
+    told-under client steps session l p runs e ∙ ap (λ b. topic_under (cond b (topics_told steps) (λ a. None)) p.topic (aliases.alias_of p)) (sym open_is)
+
 pub room_is_exact : RoomIsExact
-room_is_exact = λ run later m w r before c publish now room event name.
+room_is_exact = λ run later m w r before c publish now room event topic under name.
     let here = called_at run later m w r before c in
     let there = here.finds.there in
     let held = here.finds.held in
     let O = operations_amid (site m.fate) run before in
+    let steps = events_before run m before c in
+    let session = here.finds.seat.session in
     let state : IsStateOf O held.store = (node_holds_amid run here.finds.world here.next m here.finds.reached here.honest here.happens (site m.fate) before held there).state in
+    let runs : SessionRun (new_session c.step.client) steps session = sessions_are_runs_amid run here.finds.world m here.finds.reached (site m.fate) before held there c.step.client here.finds.seat here.finds.found in
+    let seen : (aliases.filled (aliases_at c.step.client held) publish).topic ≡ topic =
+    ap (λ (o : Option Seat). (aliases.filled (aliases_in o) publish).topic) here.finds.found ∙ ap (λ (x : Option (List ℕ)). unwrap_or x []) (topic_seen c.step.client steps session publish runs session.link refl ∙ under) in
     let told = room_is_told here.event there.holds.site.node.place there.held held (acts_of m.fate) here.decides before c.after c.step c.acts there.runs (packets.Publish publish) now room event in
-    let is : room ≡ has_room publish.topic held.store = told ∙ ap (λ t. takes_topic t held.store) (own_topic (aliases_at c.step.client held) publish name.some) ∙ takes_name publish.topic held.store name in
-    room_exactly O held.store state publish.topic room (sym is)
+    let is : room ≡ has_room topic held.store = told ∙ ap (λ t. takes_topic t held.store) seen ∙ takes_name topic held.store name in
+    room_exactly O held.store state topic room (sym is)

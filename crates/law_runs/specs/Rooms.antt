@@ -1,14 +1,16 @@
 -- When a message with RETAIN is refused for want of room (MQTT 5.0, 3.3.1.3, 3.4.2.1 and 3.5.2.1).
-use Rattle.std.specs.Prelude.{◌≡◌, ◌↔◌, ◌⊎◌, ℕ, ◌<◌, ◌≤◌, Bool, true, cond, is_some, length, List, ◌∷◌, ◌++◌, Some}
+use Rattle.std.specs.Prelude.{◌≡◌, ◌↔◌, ◌⊎◌, ℕ, ◌<◌, ◌≤◌, Bool, true, false, cond, is_some, length, List, ◌∷◌, ◌++◌, Some, None}
 use Rattle.std.specs.FinMap.Entries.{find}
 use Rattle.mqtt_fields.specs.declared.options.Qos.{Qos}
+use Rattle.mqtt_fields.specs.Properties.{first_two}
 use Rattle.mqtt_message.specs.declared.message.Message.{Message}
 use Rattle.mqtt_packets.specs.declared.packet.Packet.TheVariants as packets
 use Rattle.mqtt_packets.specs.declared.publish.Publish.{Publish}
 use Rattle.mqtt_topics.specs.Topics.{IsName}
 use Rattle.mqtt_sessions.specs.declared.reaction.Ask.TheVariants.{Pass}
 use Rattle.mqtt_sessions.specs.Answers.{puback, pubrec}
-use Rattle.law_sessions.specs.Runs.{takes}
+use Rattle.law_sessions.specs.Aliases.{Topics, topic_under, topics_told}
+use Rattle.law_sessions.specs.Runs.{Step, takes}
 use Rattle.subscription_set.specs.Sorted.{Rises}
 use Rattle.replica_store.specs.declared.kept.Kept.{Kept}
 use Rattle.replica_store.specs.declared.operation.Operation.{Operation}
@@ -20,7 +22,7 @@ use Rattle.cluster_play.specs.Worlds.{World}
 use Rattle.cluster_play.specs.Runs.{Played}
 use Rattle.cluster_play.specs.Histories.{Reached, site, operations_amid}
 use Rattle.law_runs.specs.Staying.{CallsSession}
-use Rattle.law_runs.specs.Publishing.{TakesPublish, message_after, events_before}
+use Rattle.law_runs.specs.Publishing.{TakesPublish, connected_over, message_after, events_before}
 
 -- the topic is held: it was given a message, also one that is cleared by now
 abbrev pub IsTopicHeld : List Operation → List ℕ → Type 0
@@ -63,10 +65,15 @@ PassedHasRoom =
     → (x : Message) → c.step.reaction.ask ≡ Some (Pass x) → t.publish.retain ≡ true
     → HasRoomForTopic (operations_amid (site m.fate) run before) (message_taken run m before c t).topic
 
--- a session is told of each PUBLISH that names its topic, also at QoS 0, whether there is room for that: never that there is where it lacks, nor
--- that it lacks where there is
+-- the topic that each alias of the client stands for on its connection, once these events came; where it has none, an alias stands for nothing
+abbrev pub topics_open : List Step → Topics
+topics_open steps = cond (connected_over false steps) (topics_told steps) (λ alias. None)
+
+-- a session is told of each PUBLISH, at whatever QoS, whether there is room for its topic, which is its own, or where that is empty the one that its alias
+-- stands for: never that there is where it lacks, nor that it lacks where there is
 abbrev pub RoomIsExact : Type 0
 RoomIsExact =
     (run later : List Played) (m : Played) (w : World) → Reached (run ++ m ∷ later) w
-    → (before : List Act) (c : CallsSession m before) (publish : Publish) (now : ℕ) (room : Bool) → c.step.event ≡ takes (packets.Publish publish) now room → IsName publish.topic
-    → cond room (HasRoomForTopic (operations_amid (site m.fate) run before) publish.topic) (LacksRoomForTopic (operations_amid (site m.fate) run before) publish.topic)
+    → (before : List Act) (c : CallsSession m before) (publish : Publish) (now : ℕ) (room : Bool) → c.step.event ≡ takes (packets.Publish publish) now room
+    → (topic : List ℕ) → topic_under (topics_open (events_before run m before c)) publish.topic (first_two 35 publish.properties) ≡ Some topic → IsName topic
+    → cond room (HasRoomForTopic (operations_amid (site m.fate) run before) topic) (LacksRoomForTopic (operations_amid (site m.fate) run before) topic)

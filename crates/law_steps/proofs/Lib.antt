@@ -58,6 +58,8 @@ pub mod Passing
 pub mod Phases
 pub mod Pieced
 pub mod Pieces
+pub mod ReasonLaws
+pub mod Reasons
 pub mod Released
 pub mod Removing
 pub mod Requested

@@ -8,12 +8,14 @@ pub mod Determined
 pub mod Determining
 pub mod Due
 pub mod Ending
+pub mod Finishing
 pub mod Forwards
 pub mod Frames
 pub mod Going
 pub mod Knows
 pub mod Lifted
 pub mod Moving
+pub mod Offering
 pub mod Outputs
 pub mod Overs
 pub mod Packets
