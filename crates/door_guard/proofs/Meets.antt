@@ -1,6 +1,6 @@
 -- What comes of an event.
 use Rattle.std.proofs.Common.{◌≡◌, ℕ, Bool, true, false, cond, List, [], ◌∷◌, ◌++◌, Option, Some, None, refl, sym, ap, subst, ◌∙◌}
-use Rattle.std.specs.Prelude.{◌==◌, option_map}
+use Rattle.std.specs.Prelude.{◌==◌, not, option_map}
 use Rattle.std.proofs.lemmas.List.{append-nil}
 use Rattle.std.proofs.lemmas.Option.{same_Some}
 use Rattle.broker_sockets.specs.declared.bridge.Given.{Given}
@@ -10,7 +10,7 @@ use Rattle.broker_sockets.specs.declared.events.EventKind.{EventKind}
 use Rattle.broker_sockets.specs.declared.events.EventKind.TheVariants as kinds
 use Rattle.broker_sockets.specs.declared.events.Output.{Output}
 use Rattle.door_guard.specs.Answering.{IsAnsweredIf, IsHeardIf, IsPassedOn}
-use Rattle.door_guard.specs.Clients.{GoesOn, IsBut, client_of, is_leaving_of, is_told_at, is_told_of, restaged}
+use Rattle.door_guard.specs.Clients.{GoesOn, IsBut, client_of, is_leaving_of, is_live, is_told_at, is_told_of, restaged}
 use Rattle.door_guard.specs.Counts.{Refused}
 use Rattle.door_packets.specs.Rights.{Rights}
 use Rattle.door_packets.specs.Sending.{Buffer}
@@ -19,8 +19,9 @@ use Rattle.door_guard.specs.Stages.Happening.{Opens, Goes, Spaces, Comes, Leaves
 use Rattle.door_guard.specs.Stages.Notice.{Open, Gone, Space, Piece}
 use Rattle.door_guard.specs.Stages.Said.{Same}
 use Rattle.door_guard.specs.Telling.{AreDone, AreGiven, ArePaths, IsMet, IsPart, IsTold, Ledger, Stages, none}
-use Rattle.door_packets.specs.Walk.{Walked, fresh}
-use Rattle.door_packets.specs.Coming.{come}
+use Rattle.door_packets.specs.Walk.{Walked, fresh, is_leaving_at}
+use Rattle.door_packets.specs.Coming.{come, come_at}
+use Rattle.door_packets.specs.Passing.{told_alone}
 use Rattle.door_packets.specs.declared.client.Client.{Client}
 use Rattle.door_packets.specs.declared.client.Stage.{Stage}
 use Rattle.door_packets.specs.declared.client.Stage.TheVariants as stages
@@ -262,6 +263,17 @@ module _ {H : Type 0} (handles : H → Event → List Output → H → Type 0) (
     came_alone bytes h h' k k' o p None is goes d = absurd goes
     came_alone bytes h h' k k' o p (Some x) is goes d =
         came_on bytes (λ b. false) x x (steps.Tells bytes.items ∷ []) h h' k k k' o p is (sym (goes (λ b. false))) (record { at = sym is; others = λ q e. refl }) d
+
+    live_at : (marked : List ℕ → Bool) (bs : List ℕ) (x : Client) (stage : Stage) → come_at r marked x bs stage ≡ told_alone x bs → not (is_leaving_at stage) ≡ true
+    live_at marked bs x (stages.Waiting room) e = refl
+    live_at marked bs x stages.Open e = refl
+    live_at marked bs x stages.Over e = refl
+    live_at marked bs x stages.Leaving e = absurd (let steps_are : ◌≡◌ {A = List Step} [] (steps.Tells bs ∷ []) = ap (λ (w : Walked). w.steps) e in cc)
+
+    -- what goes on came on a connection whose end didn't go out
+    pub goes_live : (bs : List ℕ) (z : Option Client) → GoesOn r bs z → is_live z ≡ true
+    goes_live bs None goes = absurd goes
+    goes_live bs (Some x) goes = live_at (λ b. false) bs x x.stage (goes (λ b. false))
 
     pub came_told : (bytes : Buffer) (xs : List ℕ) (h h' : H) (k k' : Clients) (o p : Ledger) → xs ≡ bytes.items → GoesOn r bytes.items (client_of k c)
         → AreDone handles r moment c (steps.Tells xs ∷ []) h h' k k' o p → IsMet handles r moment (λ q. noted q (kinds.Piece c bytes)) h h' k k' o p

@@ -12,10 +12,9 @@ use crate::clients::Clients;
 use crate::fault::GuardFault;
 use crate::giving::give;
 use crate::known::{Known, forget};
-use crate::telling::{do_step, do_steps, leave_all, tell};
+use crate::telling::{do_steps, leave_all, tell};
 use broker_sockets::{BridgeHandler, Event, EventKind, Given, Handler, Output, PeerEvent};
-use door_packets::{Access, Client, Stage, Step, Walk, come, goes_on};
-use mqtt_packets::Bytes;
+use door_packets::{Access, Client, Stage, Walk, come, goes_on};
 use std::alloc::Global;
 
 /// Tells the handler inside of an event that is on no connection, or on one of which it knows.
@@ -122,8 +121,9 @@ fn take_going<H: Handler, A: Access>(
     ensures ok { OnOk result (IsMet H.handles (A.rights access.now) place.0 (λ q. noted q (Piece place.1 bytes)) inside.old inside.new known.old.clients known.new.clients (known.old.refusals, outputs.old.items) (known.new.refusals, outputs.new.items)) }
     ensures fault { IfErr result (IsStopped H.handles H.refuses inside.old inside.new) }
 {
-    let step = Step::Tells(Bytes::new(bytes));
-    do_step(alloc, access, inside, known, place, step, outputs)
+    let connection = place.1;
+    let kind = EventKind::Piece { connection, bytes };
+    tell(alloc, access, inside, known, place, &None, kind, outputs)
 }
 
 /// Bytes came on a connection.

@@ -5,7 +5,7 @@ use Rattle.std.specs.Str.{bytes_eq}
 use Rattle.std.proofs.lemmas.Bool.{eqb-true}
 use Rattle.std.proofs.lemmas.List.Splits.{slice_split-cons_yes}
 use Rattle.mqtt_topics.specs.Levels.{is_separator, is_wildcard, levels, multi_level, single_level}
-use Rattle.mqtt_access.specs.Comparing.{begins_alike, is_multi, is_single, matches_topic, name_matches}
+use Rattle.mqtt_access.specs.Comparing.{begins_alike, begins_wild, is_multi, is_single, matches_topic, name_matches}
 use Rattle.mqtt_access.specs.Filled.{filled_places, filter_levels}
 use Rattle.mqtt_access.specs.declared.filled.RuleFilter.{RuleFilter}
 use Rattle.mqtt_access.proofs.FirstLevels.{after, has_first}
@@ -78,6 +78,15 @@ empty_apart t own fs ts e =
     unequal : (t : ℕ) (own : List ℕ) → [] ≡ t ∷ own → ⊥
     unequal t own e = cc
 
+-- a filter that is left where a topic ends begins with a wildcard
+ends_wild : (fs : List ℕ) → name_matches (levels fs) [] ≡ true → begins_wild fs ≡ true
+ends_wild [] e = never e
+ends_wild (g ∷ gs) e = by_test (is_separator g) _
+    (λ at. never (sym (ap (λ ls. name_matches ls []) (slice_split-cons_yes is_separator g gs at)) ∙ e))
+    (λ on.
+    let a = after g gs on in
+    by_test (is_wildcard g) _ (λ wild. wild) (λ plain. absurd (no_multi g a.first plain (sym (ap (λ ls. name_matches ls []) a.is) ∙ e))))
+
 pub alike : (filter topic : List ℕ) → name_matches (levels filter) (levels topic) ≡ true → begins_alike filter topic ≡ true
 alike [] [] e = refl
 alike [] (t ∷ ts) e = by_test (is_separator t) _
@@ -87,8 +96,9 @@ alike [] (t ∷ ts) e = by_test (is_separator t) _
     (λ fails.
     let a = after t ts fails in
     absurd (empty_apart t a.first [] a.rest (sym (ap (λ ls. name_matches ([] ∷ []) ls) a.is) ∙ e)))
-alike (f ∷ fs) [] e = by_test (is_wildcard f) _ (λ wild. or_left (is_wildcard f) (is_separator f) wild)
-    (λ plain. by_test (is_separator f) _ (λ holds. or_right (is_wildcard f) (is_separator f) holds)
+alike (f ∷ fs) [] e = by_test (is_wildcard f) _ (λ wild. or_left (is_wildcard f) _ wild)
+    (λ plain. by_test (is_separator f) _
+    (λ holds. or_right (is_wildcard f) _ (and_both (is_separator f) (begins_wild fs) holds (ends_wild fs (sym (ap (λ ls. name_matches ls ([] ∷ [])) (slice_split-cons_yes is_separator f fs holds)) ∙ e))))
     (λ fails.
     let a = after f fs fails in
     absurd (apart f a.first a.rest [] plain (sym (ap (λ ls. name_matches ls ([] ∷ [])) a.is) ∙ e))))
@@ -114,10 +124,9 @@ alike (f ∷ fs) (t ∷ ts) e = by_test (is_wildcard f) _ (λ wild. or_left (is_
     split_both : (f t : ℕ) (fs ts : List ℕ) → is_separator f ≡ true → is_separator t ≡ true → name_matches (levels (f ∷ fs)) (levels (t ∷ ts)) ≡ name_matches (levels fs) (levels ts)
     split_both f t fs ts at ends = ap (λ ls. name_matches ls (levels (t ∷ ts))) (slice_split-cons_yes is_separator f fs at) ∙ ap (λ ls. name_matches ([] ∷ levels fs) ls) (slice_split-cons_yes is_separator t ts ends)
 
+pub unlike_levels : (filter topic : List ℕ) → begins_alike filter topic ≡ false → matches_topic (levels filter) topic ≡ false
+unlike_levels filter topic e = false_of (matches_topic (levels filter) topic) (λ m. false_or_true (begins_alike filter topic) e (alike filter topic (and_first (name_matches (levels filter) (levels topic)) _ m)))
+
 -- a filter without names in it that doesn't begin as a topic doesn't match it
 pub unlike : (rule : RuleFilter) (topic : List ℕ) → rule.names ≡ None → begins_alike rule.filter.now topic ≡ false → matches_topic (filter_levels rule) topic ≡ false
-unlike rule topic plain e = false_of (matches_topic (filter_levels rule) topic) (λ m.
-    let same_levels : filter_levels rule ≡ levels rule.filter.now = ap (λ names. filled_places names (levels rule.filter.now)) plain in
-    let test : name_matches (levels rule.filter.now) (levels topic) ≡ true =
-    ap (λ ls. name_matches ls (levels topic)) (sym same_levels) ∙ and_first (name_matches (filter_levels rule) (levels topic)) _ m in
-    false_or_true (begins_alike rule.filter.now topic) e (alike rule.filter.now topic test))
+unlike rule topic plain e = ap (λ names. matches_topic (filled_places names (levels rule.filter.now)) topic) plain ∙ unlike_levels rule.filter.now topic e

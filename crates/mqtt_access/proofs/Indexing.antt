@@ -1,5 +1,5 @@
 -- One rule more, where it is put.
-use Rattle.std.proofs.Common.{◌≡◌, ℕ, Bool, true, false, ◌||◌, ◌&&◌, cond, Result, Ok, Err, OnOk, List, [], ◌∷◌, ◌++◌, Option, Some, None, refl, sym, ap, ◌∙◌, subst}
+use Rattle.std.proofs.Common.{◌≡◌, ℕ, Bool, true, false, ◌||◌, ◌&&◌, cond, List, [], ◌∷◌, ◌++◌, Option, Some, None, refl, sym, ap, ◌∙◌, subst}
 use Rattle.std.specs.List.{list_any}
 use Rattle.std.specs.Option.{option_map_or}
 use Rattle.std.specs.Str.{bytes_eq}
@@ -7,7 +7,7 @@ use Rattle.mqtt_topics.specs.Levels.{levels}
 use Rattle.mqtt_access.specs.Index.{HasMore, IsMorePatterns, forbids, forbids_in, gives, gives_in, own}
 use Rattle.mqtt_access.specs.Named.{IsAddedFor, rules_of}
 use Rattle.mqtt_access.specs.Own.{IsAdded, forbids_at, gives_at, own_forbids, own_gives}
-use Rattle.mqtt_access.specs.Rules.{Asked, allows, denies, is_deny, is_unfit, meets_asked, passes, suits}
+use Rattle.mqtt_access.specs.Rules.{Asked, allows, denies, is_deny, meets_asked, passes, suits}
 use Rattle.mqtt_access.specs.declared.index.RuleIndex.{RuleIndex}
 use Rattle.mqtt_access.specs.declared.named.NamedRules.{NamedRules}
 use Rattle.mqtt_access.specs.declared.own.OwnRules.{OwnRules}
@@ -15,7 +15,7 @@ use Rattle.mqtt_access.specs.declared.patterns.Patterns.{Patterns}
 use Rattle.mqtt_access.specs.declared.rule.Access.{Access}
 use Rattle.mqtt_access.specs.declared.rule.Access.TheVariants.{Read, Write, ReadWrite, Deny}
 use Rattle.mqtt_access.specs.declared.rule.Scope.{Scope}
-use Rattle.mqtt_access.specs.declared.rule.Scope.TheVariants.{Nameless, User, Pattern}
+use Rattle.mqtt_access.specs.declared.rule.Scope.TheVariants.{Nameless, User}
 use Rattle.mqtt_access.specs.declared.rule.TopicRule.{TopicRule}
 use Rattle.mqtt_access.proofs.Owning.{any_more, no_more}
 use Rattle.mqtt_access.proofs.Tests.{by_test, false_of, false_or_true, same, tests_same}

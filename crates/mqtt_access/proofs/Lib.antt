@@ -5,6 +5,7 @@ pub mod FirstLevels
 pub mod Indexing
 pub mod Naming
 pub mod Owning
+pub mod Probes
 pub mod Reading
 pub mod Samples
 pub mod Surely

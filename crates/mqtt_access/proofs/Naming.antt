@@ -1,12 +1,14 @@
 -- One rule more of a user.
-use Rattle.std.proofs.Common.{◌≡◌, ℕ, zero, suc, get_or, ◌+◌, ◌<◌, ◌≤◌, Bool, true, false, ◌||◌, ◌&&◌, cond, List, [], ◌∷◌, ◌++◌, length, take, drop, Option, Some, None, refl, sym, ap, subst, ◌∙◌, arith}
-use Rattle.std.specs.Prelude.{◌==◌}
+use Rattle.std.proofs.Common.{◌≡◌, ℕ, zero, suc, get_or, ◌<◌, Bool, true, false, ◌||◌, ◌&&◌, cond, List, [], ◌∷◌, ◌++◌, length, take, drop, set, Option, Some, None, Vec, refl, sym, ap, subst, ◌∙◌, arith}
+use Rattle.std.specs.Prelude.{◌==◌, slice_get}
+use Rattle.std.specs.declared.alloc.Global.{Global}
 use Rattle.std.proofs.Math.Seq.{drop-cons}
 use Rattle.std.proofs.lemmas.Bool.{eqb-true}
+use Rattle.std.proofs.lemmas.Option.{slice_get-get_or}
 use Rattle.std.specs.List.{remove}
 use Rattle.std.specs.Str.{bytes_eq}
 use Rattle.mqtt_topics.specs.Levels.{levels}
-use Rattle.mqtt_access.specs.Named.{IsAddedFor, IsJoined, IsTaken, OthersStay, first_named, number_of, rules_of, users_at}
+use Rattle.mqtt_access.specs.Named.{IsAddedFor, IsJoined, IsTaken, among, first_named, number_of, rules_of, users_at}
 use Rattle.mqtt_access.specs.Own.{IsAdded, own_forbids, own_gives}
 use Rattle.mqtt_access.specs.Rules.{Asked, is_deny, meets_asked, passes, suits}
 use Rattle.mqtt_access.specs.declared.named.NamedRules.{NamedRules}
@@ -78,18 +80,44 @@ joined_none name access filter us vs ws g g' t none_gives none_forbids is e =
 
 -- ---- among those whose names have the same number
 
-pub added : (name : List ℕ) (access : Access) (filter : List ℕ) (t u v : NamedRules) (us us' : List UserRules) (n : ℕ) → n ≡ number_of name → us ≡ users_at t n → OthersStay n t u → IsJoined name access filter us us' → users_at v n ≡ us' → OthersStay n u v
-    → IsAddedFor name access filter t v
-added name access filter t u v us us' n is were left j here there =
-    let now : users_at v (number_of name) ≡ us' = ap (users_at v) (sym is) ∙ here in
-    let before : us ≡ users_at t (number_of name) = were ∙ ap (users_at t) is in
+get_same : {X : Type 0} (xs : List X) (i : ℕ) (x : X) → i < length xs → slice_get (set xs i x) i ≡ Some x
+get_same [] i x lt = absurd (omega (arith, lt))
+get_same (y ∷ ys) zero x lt = refl
+get_same (y ∷ ys) (suc i) x lt = get_same ys i x (omega (arith, lt))
+
+get_other : {X : Type 0} (xs : List X) (i j : ℕ) (x : X) → (i == j) ≡ false → slice_get (set xs i x) j ≡ slice_get xs j
+get_other [] i j x apart = refl
+get_other (y ∷ ys) zero zero x apart = absurd cc
+get_other (y ∷ ys) zero (suc j) x apart = refl
+get_other (y ∷ ys) (suc i) zero x apart = refl
+get_other (y ∷ ys) (suc i) (suc j) x apart = get_other ys i j x (pred_apart i j apart)
+  where
+    pred_apart : (i j : ℕ) → (suc i == suc j) ≡ false → (i == j) ≡ false
+    pred_apart i j e = grind arith
+
+empty_more : (xs : List (Vec UserRules Global)) (v : Vec UserRules Global) (n : ℕ) → v.items ≡ [] → among (slice_get (xs ++ v ∷ []) n) ≡ among (slice_get xs n)
+empty_more [] v zero none = none
+empty_more [] v (suc n) none = refl
+empty_more (x ∷ xs) v zero none = refl
+empty_more (x ∷ xs) v (suc n) none = empty_more xs v n none
+
+-- an empty place more
+pub still_same : (t u : NamedRules) (v : Vec UserRules Global) (n : ℕ) → v.items ≡ [] → u.users.items ≡ t.users.items ++ v ∷ [] → users_at u n ≡ users_at t n
+still_same t u v n none more = ap (λ (xs : List (Vec UserRules Global)). among (slice_get xs n)) more ∙ empty_more t.users.items v n none
+
+pub added : (name : List ℕ) (access : Access) (filter : List ℕ) (t u v : NamedRules) (n : ℕ) (before after : Vec UserRules Global) → n ≡ number_of name → ((k : ℕ) → users_at u k ≡ users_at t k) → n < length u.users.items
+    → before ≡ get_or u.users.items n before → v.users.items ≡ set u.users.items n after → IsJoined name access filter before.items after.items → IsAddedFor name access filter t v
+added name access filter t u v n before after is same lt was now j =
+    let xs : List (Vec UserRules Global) = u.users.items in
+    let there : users_at u n ≡ before.items = ap among (slice_get-get_or xs n before lt ∙ ap Some (sym was)) in
+    let here : users_at v n ≡ after.items = ap (λ (ys : List (Vec UserRules Global)). among (slice_get ys n)) now ∙ ap among (get_same xs n after lt) in
+    let first : rules_of t name ≡ first_named name before.items = ap (first_named name) (ap (users_at t) (sym is) ∙ sym (same n) ∙ there) in
+    let last : rules_of v name ≡ first_named name after.items = ap (first_named name) (ap (users_at v) (sym is) ∙ here) in
     record {
-      here =
-          subst (λ (xs : List UserRules). IsAdded access filter (first_named name xs) (first_named name (users_at v (number_of name)))) before
-          (subst (λ (xs : List UserRules). IsAdded access filter (first_named name us) (first_named name xs)) (sym now) j.here);
+      here = subst (λ (o : Option OwnRules). IsAdded access filter o (rules_of v name)) (sym first) (subst (λ (o : Option OwnRules). IsAdded access filter (first_named name before.items) o) (sym last) j.here);
       there = λ other apart. by_test (n == number_of other) (rules_of v other ≡ rules_of t other)
           (λ same_number.
-          let same_n : n ≡ number_of other = eqb-true n (number_of other) same_number in
-          ap (λ (k : ℕ). first_named other (users_at v k)) (sym same_n) ∙ ap (first_named other) here ∙ j.there other apart ∙ ap (first_named other) were ∙ ap (λ (k : ℕ). first_named other (users_at t k)) same_n)
-          (λ other_number. ap (first_named other) (there (number_of other) other_number ∙ left (number_of other) other_number));
+          let it : n ≡ number_of other = eqb-true n (number_of other) same_number in
+          ap (λ (k : ℕ). first_named other (users_at v k)) (sym it) ∙ ap (first_named other) here ∙ j.there other apart ∙ ap (first_named other) (sym there ∙ same n) ∙ ap (λ (k : ℕ). first_named other (users_at t k)) it)
+          (λ other_number. ap (first_named other) (ap (λ (ys : List (Vec UserRules Global)). among (slice_get ys (number_of other))) now ∙ ap among (get_other xs n (number_of other) after other_number) ∙ same (number_of other)));
     }

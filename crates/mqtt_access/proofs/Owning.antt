@@ -1,5 +1,5 @@
 -- One rule more among those for the same clients.
-use Rattle.std.proofs.Common.{◌≡◌, ℕ, Bool, true, false, ◌||◌, ◌&&◌, List, [], ◌∷◌, ◌++◌, Some, refl, sym, ap, ◌∙◌}
+use Rattle.std.proofs.Common.{◌≡◌, ℕ, Bool, true, false, ◌||◌, ◌&&◌, List, [], ◌∷◌, ◌++◌, Some, refl, ap, ◌∙◌}
 use Rattle.std.specs.List.{list_any}
 use Rattle.mqtt_topics.specs.Levels.{levels}
 use Rattle.mqtt_access.specs.Own.{IsAdded, own_forbids, own_gives}

@@ -1,16 +1,17 @@
 -- What is surely alike matches.
-use Rattle.std.proofs.Common.{◌≡◌, inl, inr, ℕ, Bool, true, false, cond, arith, ◌||◌, ◌&&◌, List, [], ◌∷◌, length, None, refl, sym, ◌∙◌, ap, subst}
+use Rattle.std.proofs.Common.{◌≡◌, ◌⊎◌, inl, inr, ℕ, Bool, true, false, cond, arith, ◌||◌, ◌&&◌, List, [], ◌∷◌, length, Option, Some, None, refl, sym, ◌∙◌, ap, subst}
 use Rattle.std.specs.Prelude.{◌==◌, not}
-use Rattle.std.specs.List.{onto_first, slice_split}
+use Rattle.std.specs.List.{onto_first}
+use Rattle.std.specs.Option.{option_map_or}
 use Rattle.std.specs.Str.{bytes_eq}
 use Rattle.std.proofs.lemmas.Bool.{eqb-true, eqb-false}
 use Rattle.std.proofs.lemmas.List.Splits.{slice_split-cons_no, slice_split-cons_yes}
-use Rattle.mqtt_topics.specs.Levels.{is_separator, levels, multi_level, single_level}
-use Rattle.mqtt_access.specs.Comparing.{begins_with_dollar, is_multi, is_single, is_surely, is_wild, matches_topic, name_matches, nothing}
+use Rattle.mqtt_topics.specs.Levels.{is_separator, is_wildcard, levels, multi_level, single_level}
+use Rattle.mqtt_access.specs.Comparing.{after_level, begins_with_dollar, behind_same, is_multi, is_single, is_surely, is_wild, matches_topic, name_matches, nothing}
 use Rattle.mqtt_access.specs.Filled.{filled_places, filter_levels, first_level}
 use Rattle.mqtt_access.specs.declared.filled.RuleFilter.{RuleFilter}
 use Rattle.mqtt_access.proofs.FirstLevels.{after, has_first}
-use Rattle.mqtt_access.proofs.Tests.{and_both, and_first, and_second, by_test, never, or_either, or_left, or_right, same, tests_same, true_not}
+use Rattle.mqtt_access.proofs.Tests.{and_both, and_first, and_second, by_test, first_false, never, or_either, or_left, or_right, same, second_false, tests_same, true_not}
 
 -- the first levels are the same, and the others match
 record IsAlike (fs ts : List ℕ) : Type 0 where
@@ -30,35 +31,42 @@ no_bytes : (bs : List ℕ) → nothing bs ≡ true → bs ≡ []
 no_bytes [] e = refl
 no_bytes (b ∷ bs) e = absurd (let bad : length (b ∷ bs) ≡ 0 = eqb-true (length (b ∷ bs)) 0 e in omega (arith, bad))
 
--- its first byte is no `#`
+-- its first byte is no wildcard
 abbrev IsPlainHead : List ℕ → Type 0
 IsPlainHead [] = Unit {0}
-IsPlainHead (f ∷ fs) = (f == 35) ≡ false
+IsPlainHead (f ∷ fs) = is_wildcard f ≡ false
 
-head_case : (p q : Bool) (v : Bool) → cond p (false && q) v ≡ true → p ≡ false
-head_case true q v e = never e
-head_case false q v e = refl
+head_case : (p q x : Bool) (o : Option (List ℕ)) (k : List ℕ → Bool) → cond p (false && x) (option_map_or k (cond q None o) false) ≡ true → (p || q) ≡ false
+head_case true q x o k e = never e
+head_case false true x o k e = never e
+head_case false false x o k e = refl
 
 plain_head : (fs ts : List ℕ) → is_surely false fs ts ≡ true → IsPlainHead fs
 plain_head [] ts e = tt
-plain_head (f ∷ fs) [] e = head_case (f == 35) (nothing fs) false e
-plain_head (f ∷ fs) (t ∷ ts) e = head_case (f == 35) (nothing fs) (cond ((f == 43) || not (f == t)) false (is_surely (is_separator f) fs ts)) e
+plain_head (f ∷ fs) ts e = head_case (f == 35) (f == 43) (nothing fs) (behind_same f ts) (is_surely (is_separator f) fs) e
 
-record IsStep (f t : ℕ) (fs ts : List ℕ) : Type 0 where
-  single : (f == 43) ≡ false
-  byte : f ≡ t
-  later : is_surely (is_separator f) fs ts ≡ true
+-- a byte that is no `#` is a `+` behind a separator, or one that the topic has too
+step_case : (p q b u : Bool) (past : List ℕ) (o : Option (List ℕ)) (k : List ℕ → Bool) → p ≡ false → cond p u (option_map_or k (cond q (cond b (Some past) None) o) false) ≡ true
+    → ((q ≡ true) × (k past ≡ true)) ⊎ ((q ≡ false) × (option_map_or k o false ≡ true))
+step_case true q b u past o k n e = never (sym n)
+step_case false true true u past o k n e = inl (refl, e)
+step_case false true false u past o k n e = never e
+step_case false false b u past o k n e = inr (refl, e)
 
-step_case : (p q r v u : Bool) → p ≡ false → cond p u (cond (q || not r) false v) ≡ true → (q ≡ false) × (r ≡ true) × (v ≡ true)
-step_case true q r v u n e = never (sym n)
-step_case false true r v u n e = never e
-step_case false false true v u n e = (refl, refl, e)
-step_case false false false v u n e = never e
+record IsSame (f : ℕ) (ts : List ℕ) (k : List ℕ → Bool) : Type 0 where
+  later : List ℕ
+  is : ts ≡ f ∷ later
+  holds : k later ≡ true
 
-step : (b : Bool) (f t : ℕ) (fs ts : List ℕ) → (f == 35) ≡ false → is_surely b (f ∷ fs) (t ∷ ts) ≡ true → IsStep f t fs ts
-step b f t fs ts n e =
-    let c = step_case (f == 35) (f == 43) (f == t) (is_surely (is_separator f) fs ts) (b && nothing fs) n e in
-    record { single = c.0; byte = eqb-true f t c.1; later = c.2 }
+same_case : (f : ℕ) (ts : List ℕ) (k : List ℕ → Bool) → option_map_or k (behind_same f ts) false ≡ true → IsSame f ts k
+same_case f [] k e = never e
+same_case f (t ∷ ts) k e = by_test (f == t) (IsSame f (t ∷ ts) k)
+    (λ is. record {
+      later = ts;
+      is = ap (λ (x : ℕ). x ∷ ts) (sym (eqb-true f t is));
+      holds = sym (ap (λ (b : Bool). option_map_or k (cond b (Some ts) None) false) is) ∙ e;
+    })
+    (λ no. never (sym (ap (λ (b : Bool). option_map_or k (cond b (Some ts) None) false) no) ∙ e))
 
 record IsWalked (fs ts : List ℕ) : Type 0 where
   matches : name_matches (levels fs) (levels ts) ≡ true
@@ -77,7 +85,7 @@ by_hash b f fs ts is e =
     let hash : f ≡ 35 = eqb-true f 35 is in
     record {
       matches = subst (λ (x : ℕ). name_matches (levels (x ∷ fs)) (levels ts) ≡ true) (sym hash) (subst (λ (xs : List ℕ). name_matches (levels (35 ∷ xs)) (levels ts) ≡ true) (sym none) (hash_matches ts));
-      alike = λ plain. never (sym plain ∙ is);
+      alike = λ plain. never (sym plain ∙ or_left (f == 35) (f == 43) is);
     }
 
 longer : (f : ℕ) (fs ts : List ℕ) → is_separator f ≡ false → IsAlike fs ts → IsAlike (f ∷ fs) (f ∷ ts)
@@ -103,19 +111,58 @@ parted f fs ts at matches = record {
 walked : (fs ts : List ℕ) → IsAlike fs ts → IsWalked fs ts
 walked fs ts h = record { matches = alike_match fs ts h; alike = λ plain. h }
 
+-- the levels of a topic where those behind its first level are known
+record IsPast (ts first : List ℕ) (names : List (List ℕ)) : Type 0 where
+  none : first ≡ []
+  own : List ℕ
+  is : levels ts ≡ own ∷ names
+
+heads : (a b : List ℕ) (xs ys : List (List ℕ)) → a ∷ xs ≡ b ∷ ys → b ≡ a
+heads a b xs ys e = cc
+
+past : (ts first : List ℕ) (names : List (List ℕ)) → levels (after_level ts) ≡ first ∷ names → IsPast ts first names
+past [] first names e = record { none = heads [] first [] names e; own = first; is = e }
+past (t ∷ ts) first names e = by_test (is_separator t) (IsPast (t ∷ ts) first names)
+    (λ at.
+    let now : levels (t ∷ ts) ≡ first ∷ names = sym (ap (λ (b : Bool). levels (cond b (t ∷ ts) (after_level ts))) at) ∙ e in
+    record { none = heads [] first (levels ts) names (sym (slice_split-cons_yes is_separator t ts at) ∙ now); own = first; is = now })
+    (λ on.
+    let now : levels (after_level ts) ≡ first ∷ names = sym (ap (λ (b : Bool). levels (cond b (t ∷ ts) (after_level ts))) on) ∙ e in
+    let p = past ts first names now in
+    record { none = p.none; own = t ∷ p.own; is = slice_split-cons_no is_separator t ts on ∙ ap (onto_first t) p.is })
+
+single_alone : (f : ℕ) (first : List ℕ) → f ≡ 43 → first ≡ [] → f ∷ first ≡ 43 ∷ []
+single_alone f first is none = cc
+
+-- a `+`, and what follows it
+passed : (f : ℕ) (fs ts : List ℕ) → (f == 43) ≡ true → is_surely (is_separator f) fs (after_level ts) ≡ true → IsWalked fs (after_level ts) → IsWalked (f ∷ fs) ts
+passed f fs ts single later next =
+    let is : f ≡ 43 = eqb-true f 43 single in
+    let on : is_separator f ≡ false = ap is_separator is in
+    let h : IsAlike fs (after_level ts) = next.alike (plain_head fs (after_level ts) (subst (λ (x : Bool). is_surely x fs (after_level ts) ≡ true) on later)) in
+    let p = past ts h.first h.names h.topic in
+    let rule : levels (f ∷ fs) ≡ (43 ∷ []) ∷ h.rules = slice_split-cons_no is_separator f fs on ∙ ap (onto_first f) h.filter ∙ ap (λ (l : List ℕ). l ∷ h.rules) (single_alone f h.first is p.none) in
+    record {
+      matches = ap (λ ls. name_matches ls (levels ts)) rule ∙ ap (λ ls. name_matches ((43 ∷ []) ∷ h.rules) ls) p.is ∙ h.rest;
+      alike = λ plain. never (sym plain ∙ or_right (f == 35) (f == 43) single);
+    }
+
+-- a byte that the topic has too
+followed : (f : ℕ) (fs ts : List ℕ) → is_surely (is_separator f) fs ts ≡ true → IsWalked fs ts → IsWalked (f ∷ fs) (f ∷ ts)
+followed f fs ts later next = by_test (is_separator f) (IsWalked (f ∷ fs) (f ∷ ts))
+    (λ at. walked (f ∷ fs) (f ∷ ts) (parted f fs ts at next.matches))
+    (λ on. walked (f ∷ fs) (f ∷ ts) (longer f fs ts on (next.alike (plain_head fs ts (subst (λ (x : Bool). is_surely x fs ts ≡ true) on later)))))
+
 walk : (b : Bool) (fs ts : List ℕ) → is_surely b fs ts ≡ true → IsWalked fs ts
 walk b [] ts e = subst (λ (xs : List ℕ). IsWalked [] xs) (sym (no_bytes ts e)) (walked [] [] (record { first = []; rules = []; names = []; filter = refl; topic = refl; rest = refl }))
-walk b (f ∷ fs) [] e = by_test (f == 35) (IsWalked (f ∷ fs) [])
-    (λ is. by_hash b f fs [] is (last_hash (f == 35) (b && nothing fs) false is e))
-    (λ no. never (sym (ap (λ (p : Bool). cond p (b && nothing fs) false) no) ∙ e))
-walk b (f ∷ fs) (t ∷ ts) e = by_test (f == 35) (IsWalked (f ∷ fs) (t ∷ ts))
-    (λ is. by_hash b f fs (t ∷ ts) is (last_hash (f == 35) (b && nothing fs) _ is e))
+walk b (f ∷ fs) ts e = by_test (f == 35) (IsWalked (f ∷ fs) ts)
+    (λ is. by_hash b f fs ts is (last_hash (f == 35) (b && nothing fs) _ is e))
     (λ no.
-    let s = step b f t fs ts no e in
-    let next : IsWalked fs ts = walk (is_separator f) fs ts s.later in
-    subst (λ (x : ℕ). IsWalked (f ∷ fs) (x ∷ ts)) s.byte (by_test (is_separator f) (IsWalked (f ∷ fs) (f ∷ ts))
-    (λ at. walked (f ∷ fs) (f ∷ ts) (parted f fs ts at next.matches))
-    (λ on. walked (f ∷ fs) (f ∷ ts) (longer f fs ts on (next.alike (plain_head fs ts (subst (λ (x : Bool). is_surely x fs ts ≡ true) on s.later)))))))
+    elim (step_case (f == 35) (f == 43) b (b && nothing fs) (after_level ts) (behind_same f ts) (is_surely (is_separator f) fs) no e) [
+      | inl h ↦ passed f fs ts h.0 h.1 (walk (is_separator f) fs (after_level ts) h.1)
+      | inr h ↦ let s = same_case f ts (is_surely (is_separator f) fs) h.1 in
+          subst (λ (xs : List ℕ). IsWalked (f ∷ fs) xs) (sym s.is) (followed f fs s.later s.holds (walk (is_separator f) fs s.later s.holds))
+    ])
 
 -- its first level is no wildcard
 wild_no : (f : ℕ) (first : List ℕ) → (f == 35) ≡ false → (f == 43) ≡ false → is_wild (f ∷ first) ≡ true → ⊥
@@ -130,13 +177,11 @@ wild_no f first no_multi no_single e =
 
 first_plain : (fs ts : List ℕ) → is_surely false fs ts ≡ true → is_wild (first_level (levels fs)) ≡ true → ⊥
 first_plain [] ts e wild = never wild
-first_plain (f ∷ fs) [] e wild = never (sym (ap (λ (p : Bool). cond p (false && nothing fs) false) (plain_head (f ∷ fs) [] e)) ∙ e)
-first_plain (f ∷ fs) (t ∷ ts) e wild =
-    let no : (f == 35) ≡ false = plain_head (f ∷ fs) (t ∷ ts) e in
-    let s = step false f t fs ts no e in
+first_plain (f ∷ fs) ts e wild =
+    let plain : is_wildcard f ≡ false = plain_head (f ∷ fs) ts e in
     by_test (is_separator f) _
     (λ at. never (sym (ap (λ ls. is_wild (first_level ls)) (slice_split-cons_yes is_separator f fs at)) ∙ wild))
-    (λ on. let a = after f fs on in wild_no f a.first no s.single (sym (ap (λ ls. is_wild (first_level ls)) a.is) ∙ wild))
+    (λ on. let a = after f fs on in wild_no f a.first (first_false (f == 35) (f == 43) plain) (second_false (f == 35) (f == 43) plain) (sym (ap (λ ls. is_wild (first_level ls)) a.is) ∙ wild))
 
 -- a filter without names in it matches what it is surely alike
 pub surely : (rule : RuleFilter) (topic : List ℕ) → rule.names ≡ None → is_surely false rule.filter.now topic ≡ true → matches_topic (filter_levels rule) topic ≡ true

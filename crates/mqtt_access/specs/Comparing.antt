@@ -1,6 +1,7 @@
 -- Levels of a rule's filter against those of a topic and of another filter, as tests (MQTT 5.0, 4.7).
-use Rattle.std.specs.Prelude.{ℕ, List, [], ◌∷◌, length, Bool, true, false, not, ◌&&◌, ◌||◌, ◌==◌, nat_eq, if◌then◌else◌}
+use Rattle.std.specs.Prelude.{ℕ, List, [], ◌∷◌, length, Bool, true, false, not, ◌&&◌, ◌||◌, ◌==◌, nat_eq, Option, Some, None, if◌then◌else◌}
 use Rattle.std.specs.List.{starts_with}
+use Rattle.std.specs.Option.{option_map_or}
 use Rattle.std.specs.Str.{bytes_eq}
 use Rattle.mqtt_topics.specs.Levels.{is_separator, is_wildcard, levels, multi_level, single_level}
 use Rattle.mqtt_access.specs.Filled.{first_level}
@@ -17,11 +18,15 @@ is_wild level = is_multi level || is_single level
 abbrev pub begins_with_dollar : List ℕ → Bool
 begins_with_dollar text = starts_with nat_eq text (36 ∷ [])
 
--- the bytes of a topic are those of a filter up to its first wildcard; of a separator there only the wildcard behind it may be left
+abbrev pub begins_wild : List ℕ → Bool
+begins_wild [] = false
+begins_wild (b ∷ bs) = is_wildcard b
+
+-- the bytes of a topic are those of a filter up to its first wildcard; a separator right before that may lack
 abbrev pub begins_alike : List ℕ → List ℕ → Bool
 begins_alike [] [] = true
 begins_alike [] (t ∷ ts) = false
-begins_alike (f ∷ fs) [] = is_wildcard f || is_separator f
+begins_alike (f ∷ fs) [] = is_wildcard f || (is_separator f && begins_wild fs)
 begins_alike (f ∷ fs) (t ∷ ts) = is_wildcard f || ((f == t) && begins_alike fs ts)
 
 -- `#`, which is the last level, matches any levels, none included; `+` any one; another level only itself
@@ -69,8 +74,20 @@ meets rule asked =
 abbrev pub nothing : List ℕ → Bool
 nothing bs = length bs == 0
 
--- a topic's bytes are those of a filter up to its end, or to a `#` that is its last byte and stands behind a separator; whether a separator stands before them
+-- what follows the first level of a text, with the separator in front of it
+abbrev pub after_level : List ℕ → List ℕ
+after_level [] = []
+after_level (t ∷ ts) = if is_separator t then t ∷ ts else after_level ts
+
+abbrev pub behind_same : ℕ → List ℕ → Option (List ℕ)
+behind_same f [] = None
+behind_same f (t ∷ ts) = if f == t then Some ts else None
+
+-- what is left of a topic behind a byte of a filter: `+` behind a separator takes the rest of a level, another byte itself
+abbrev pub behind_byte : Bool → ℕ → List ℕ → Option (List ℕ)
+behind_byte behind f ts = if f == 43 then (if behind then Some (after_level ts) else None) else behind_same f ts
+
+-- byte by byte a topic is what a filter matches, and a `#` is the filter's last byte and stands behind a separator; whether a separator stands before them
 abbrev pub is_surely : Bool → List ℕ → List ℕ → Bool
 is_surely behind [] ts = nothing ts
-is_surely behind (f ∷ fs) [] = if f == 35 then behind && nothing fs else false
-is_surely behind (f ∷ fs) (t ∷ ts) = if f == 35 then behind && nothing fs else (if (f == 43) || not (f == t) then false else is_surely (is_separator f) fs ts)
+is_surely behind (f ∷ fs) ts = if f == 35 then behind && nothing fs else option_map_or (is_surely (is_separator f) fs) (behind_byte behind f ts) false

@@ -7,4 +7,5 @@ pub mod Laws
 pub mod Named
 pub mod Own
 pub mod Pbkdf2
+pub mod Probing
 pub mod Rules

@@ -1,7 +1,5 @@
 -- Rules by user names.
-use Rattle.std.specs.Prelude.{◌≡◌, ◌==◌, ℕ, ◌+◌, ◌*◌, ◌%◌, ◌^◌, List, [], ◌∷◌, false, Option, Some, None, Vec, if◌then◌else◌}
-use Rattle.std.specs.BTreeMap.{get}
-use Rattle.std.specs.Ordering.{nat_cmp}
+use Rattle.std.specs.Prelude.{◌≡◌, ℕ, ◌+◌, ◌*◌, ◌%◌, List, [], ◌∷◌, false, Option, Some, None, Vec, slice_get, if◌then◌else◌}
 use Rattle.std.specs.Str.{bytes_eq}
 use Rattle.std.specs.declared.alloc.Global.{Global}
 use Rattle.mqtt_access.specs.Own.{IsAdded}
@@ -13,7 +11,7 @@ use Rattle.mqtt_access.specs.declared.rule.Access.{Access}
 -- a number of few bytes for a name of any
 abbrev pub number_by : ℕ → List ℕ → ℕ
 number_by n [] = n
-number_by n (b ∷ bs) = number_by ((n * 31 + b) % 2 ^ 32) bs
+number_by n (b ∷ bs) = number_by ((n * 31 + b) % 16384) bs
 
 abbrev pub number_of : List ℕ → ℕ
 number_of name = number_by 0 name
@@ -29,11 +27,7 @@ among (Some us) = us.items
 
 -- those whose names have this number
 abbrev pub users_at : NamedRules → ℕ → List UserRules
-users_at t number = among (get nat_cmp t.users number)
-
--- those of other numbers stay
-abbrev pub OthersStay : ℕ → NamedRules → NamedRules → Type 0
-OthersStay number t t' = (other : ℕ) → (number == other) ≡ false → users_at t' other ≡ users_at t other
+users_at t number = among (slice_get t.users.items number)
 
 -- the rules of a user
 abbrev pub rules_of : NamedRules → List ℕ → Option OwnRules

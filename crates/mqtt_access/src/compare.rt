@@ -1,10 +1,11 @@
 //! Rules' filters against topics and against the filters of subscriptions.
 
 ghost use Rattle.std.specs.Prelude.{◌≡◌, MatchOption, false};
-ghost use Rattle.mqtt_topics.specs.Levels.{levels};
+ghost use Rattle.std.specs.Option.{option_copied};
+ghost use Rattle.mqtt_topics.specs.Levels.{is_wildcard, levels};
 ghost use Rattle.mqtt_topics.specs.Topics.{IsShared, filter_part, share_filter};
 ghost use Rattle.mqtt_access.specs.Filled.{filled_left, filter_levels};
-ghost use Rattle.mqtt_access.specs.Comparing.{begins_alike, cover, covers, is_surely, is_wild, matches_topic, meet, meets, name_matches, opened};
+ghost use Rattle.mqtt_access.specs.Comparing.{after_level, begins_alike, begins_wild, behind_byte, cover, covers, is_surely, is_wild, matches_topic, meet, meets, name_matches, opened};
 
 use crate::filled::{FilledLevels, RuleFilter, first_of};
 use mqtt_topics::Levels;
@@ -39,28 +40,76 @@ fn is_wild(level: &str) -> bool
     level == "#" || level == "+"
 }
 
+pub(crate) fn is_wildcard(byte: u8) -> bool
+    ensures { result ≡ is_wildcard byte }
+{
+    byte == b'#' || byte == b'+'
+}
+
+fn begins_wild(bytes: &[u8]) -> bool
+    ensures { result ≡ begins_wild bytes.now }
+{
+    match bytes {
+        [] => false,
+        [first, ..] => is_wildcard(*first),
+    }
+}
+
 /// Whether a topic begins as a filter does up to its first wildcard, which it does where the filter matches it.
 fn begins_alike(filter: &str, topic: &str) -> bool
     ensures { result ≡ begins_alike filter.now topic.now }
 {
     let mut rest = topic.as_bytes();
-    for byte in filter.as_bytes() {
-        if *byte == b'#' || *byte == b'+' {
+    let mut left = filter.as_bytes();
+    while let [byte, more @ ..] = left {
+        if is_wildcard(*byte) {
             return true;
         }
         let [first, later @ ..] = rest else {
-            return *byte == b'/';
+            return *byte == b'/' && begins_wild(more);
         };
         if byte != first {
             return false;
         }
+        left = more;
         rest = later;
     }
     rest.is_empty()
 }
 
-/// Whether a topic is the text of a filter without wildcards, or begins with what stands before the only one, a `#` behind a separator. Then the filter
-/// matches it.
+/// What follows the first level of a topic, with the separator in front of it.
+fn after_level(topic: &[u8]) -> &[u8]
+    ensures { result.now ≡ after_level topic.now }
+{
+    let mut rest = topic;
+    while let [first, later @ ..] = rest {
+        if *first == b'/' {
+            return rest;
+        }
+        rest = later;
+    }
+    rest
+}
+
+/// What is left of a topic behind a byte of a filter that surely matches: `+` behind a separator takes the rest of a level, another byte itself.
+fn behind_byte(behind: bool, byte: u8, topic: &[u8]) -> Option<&[u8]>
+    ensures { option_copied result ≡ behind_byte behind byte topic.now }
+{
+    if byte == b'+' {
+        return if behind {
+            Some(after_level(topic))
+        } else {
+            None
+        };
+    }
+    match topic {
+        [] => None,
+        [first, later @ ..] => { if byte == *first { Some(later) } else { None } }
+    }
+}
+
+/// Whether a filter matches a topic for sure, as one pass over their bytes shows: the topic has the filter's bytes, and behind separators any level for a `+`, and
+/// all that follows for a `#` at the end.
 fn is_surely(filter: &str, topic: &str) -> bool
     ensures { result ≡ is_surely false filter.now topic.now }
 {
@@ -71,12 +120,9 @@ fn is_surely(filter: &str, topic: &str) -> bool
         if *byte == b'#' {
             return behind && more.is_empty();
         }
-        let [first, later @ ..] = rest else {
+        let Some(later) = behind_byte(behind, *byte, rest) else {
             return false;
         };
-        if *byte == b'+' || byte != first {
-            return false;
-        }
         behind = *byte == b'/';
         left = more;
         rest = later;
@@ -162,17 +208,16 @@ impl<'a> RuleFilter<'a> {
         name_matches(self.levels(), topic) && !(is_wild(self.first()) && topic.starts_with("$"))
     }
 
-    /// Whether it matches a topic. Most filters that don't are known by their first bytes, and most that do have no wildcard but a `#`: their levels aren't
-    /// looked at.
+    /// Whether it matches a topic. Most filters without places for names are known by one pass over their bytes: their levels aren't looked at.
     #[tactic(auto, using(crate::proofs::Beginnings::unlike, crate::proofs::Surely::surely))]
     pub(crate) fn matches(self, topic: &str) -> bool
         ensures { result ≡ matches_topic (filter_levels self.entry) topic.now }
     {
-        if self.names.is_none() && !begins_alike(self.filter, topic) {
-            return false;
-        }
         if self.names.is_none() && is_surely(self.filter, topic) {
             return true;
+        }
+        if self.names.is_none() && !begins_alike(self.filter, topic) {
+            return false;
         }
         self.matches_levels(topic)
     }

@@ -13,6 +13,7 @@ mod own;
 mod patterns;
 mod pbkdf2;
 mod permissions;
+mod probing;
 mod rule;
 
 pub use comparing::same_bytes;

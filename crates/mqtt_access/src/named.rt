@@ -1,18 +1,17 @@
 //! Rules by user names.
 
-ghost use Rattle.std.specs.Prelude.{◌≡◌, IfOk, List, None, OnOk, ℕ};
+ghost use Rattle.std.specs.Prelude.{◌≡◌, ◌<◌, List, None, OnOk, length, ℕ};
 ghost use Rattle.std.specs.Option.{option_copied};
-ghost use Rattle.mqtt_access.specs.Named.{IsAddedFor, IsJoined, IsTaken, OthersStay, first_named, number_of, rules_of, users_at};
+ghost use Rattle.mqtt_access.specs.Named.{IsAddedFor, IsJoined, IsTaken, first_named, number_of, rules_of, users_at};
 
 use crate::own::OwnRules;
 use crate::rule::Access;
 use mqtt_fields::{NoMemory, Text};
 use mqtt_topics::Filter;
 use std::alloc::Global;
-use std::collections::BTreeMap;
 
 /// One more than the greatest number of a name.
-const NUMBERS: u64 = 4_294_967_296;
+const NUMBERS: usize = 16_384;
 
 /// The rules of a user.
 #[derive(Debug, Drop)]
@@ -21,13 +20,13 @@ pub(crate) struct UserRules {
     rules: OwnRules,
 }
 
-/// A number for a name: numbers are compared faster than names.
-fn number_of(name: &str) -> u64
+/// A number for a name: the place of its rules, so that few names are compared.
+fn number_of(name: &str) -> usize
     ensures { result ≡ number_of name.now }
 {
-    let mut number = 0u64;
+    let mut number = 0;
     for byte in name.as_bytes() {
-        number = (number * 31 + *byte as u64) % NUMBERS;
+        number = (number * 31 + *byte as usize) % NUMBERS;
     }
     number
 }
@@ -78,10 +77,10 @@ fn join(
     Ok(())
 }
 
-/// The rules of users, by numbers of their names.
+/// The rules of users: those of each number of a name at its place.
 #[derive(Drop)]
 pub(crate) struct NamedRules {
-    users: BTreeMap<u64, Vec<UserRules>>,
+    users: Vec<Vec<UserRules>>,
 }
 
 impl NamedRules {
@@ -90,27 +89,19 @@ impl NamedRules {
         ensures { (name : List ℕ) → rules_of result name ≡ None }
     {
         NamedRules {
-            users: BTreeMap::new(alloc),
+            users: Vec::new(alloc),
         }
     }
 
-    /// Those whose names have this number.
-    fn take(&mut self, alloc: Global, number: u64) -> Vec<UserRules>
-        ensures found { result.items ≡ users_at self.old number }
-        ensures left { OthersStay number self.old self.new }
+    /// There is a place for this number.
+    #[tactic(auto, using(crate::proofs::Naming::still_same))]
+    fn widen(&mut self, alloc: Global, number: usize) -> Result<(), NoMemory>
+        ensures place { OnOk result (number < length self.new.users.items) }
+        ensures same { OnOk result ((n : ℕ) → users_at self.new n ≡ users_at self.old n) }
     {
-        match self.users.remove(&number) {
-            Some(users) => users,
-            None => Vec::new(alloc),
+        while self.users.len() <= number {
+            self.users.push(Vec::new(alloc))?;
         }
-    }
-
-    /// These are those whose names have this number.
-    fn put(&mut self, number: u64, users: Vec<UserRules>) -> Result<(), NoMemory>
-        ensures there { OnOk result (users_at self.new number ≡ users.items) }
-        ensures left { OnOk result (OthersStay number self.old self.new) }
-    {
-        self.users.insert(number, users)?;
         Ok(())
     }
 
@@ -118,7 +109,7 @@ impl NamedRules {
     pub(crate) fn of(&self, name: &str) -> Option<&OwnRules>
         ensures { option_copied result ≡ rules_of self.now name.now }
     {
-        match self.users.get(&number_of(name)) {
+        match self.users.get(number_of(name)) {
             None => None,
             Some(users) => first_named(users, name),
         }
@@ -136,8 +127,7 @@ impl NamedRules {
         ensures { OnOk result (IsAddedFor name access filter self.old self.new) }
     {
         let number = number_of(name.as_str());
-        let mut users = self.take(alloc, number);
-        join(alloc, &mut users, name, access, filter)?;
-        self.put(number, users)
+        self.widen(alloc, number)?;
+        join(alloc, &mut self.users[number], name, access, filter)
     }
 }

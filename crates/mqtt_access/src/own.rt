@@ -8,46 +8,40 @@ ghost use Rattle.mqtt_access.specs.Own.{IsAdded, own_forbids, own_gives};
 ghost use Rattle.mqtt_access.specs.Rules.{Asked, asked_of};
 
 use crate::compare::part_of;
-use crate::filled::RuleFilter;
+use crate::probing::ProbedFilter;
 use crate::rule::{Access, Request};
 use mqtt_fields::NoMemory;
 use mqtt_topics::Filter;
 use std::alloc::Global;
 
 /// Whether some of the filters matches a topic.
-fn some_matches(filters: &[Filter], topic: &str) -> bool
+fn some_matches(filters: &[ProbedFilter], topic: &str) -> bool
     ensures { result ≡ list_any (λ f. matches_topic (levels f) topic.now) filters.now }
 {
-    filters
-        .iter()
-        .any(|filter| RuleFilter::plain(filter).matches(topic))
+    filters.iter().any(|filter| filter.matches(topic))
 }
 
 /// Whether some of the filters matches each topic that this one matches, which isn't shared.
-fn some_covers(filters: &[Filter], asked: &str) -> bool
+fn some_covers(filters: &[ProbedFilter], asked: &str) -> bool
     ensures { result ≡ list_any (λ f. covers (levels f) (levels asked.now)) filters.now }
 {
-    filters
-        .iter()
-        .any(|filter| RuleFilter::plain(filter).covers(asked))
+    filters.iter().any(|filter| filter.covers(asked))
 }
 
 /// Whether some of the filters matches a topic that this one matches, which isn't shared.
-fn some_meets(filters: &[Filter], asked: &str) -> bool
+fn some_meets(filters: &[ProbedFilter], asked: &str) -> bool
     ensures { result ≡ list_any (λ f. meets (levels f) (levels asked.now)) filters.now }
 {
-    filters
-        .iter()
-        .any(|filter| RuleFilter::plain(filter).meets(asked))
+    filters.iter().any(|filter| filter.meets(asked))
 }
 
 /// The filters of rules for the same clients, which have no places for names, by what they give. So neither the kind of a rule nor its user is looked at
 /// for a message.
 #[derive(Debug, Drop)]
 pub(crate) struct OwnRules {
-    writing: Vec<Filter>,
-    reading: Vec<Filter>,
-    denying: Vec<Filter>,
+    writing: Vec<ProbedFilter>,
+    reading: Vec<ProbedFilter>,
+    denying: Vec<ProbedFilter>,
 }
 
 impl OwnRules {
@@ -74,13 +68,14 @@ impl OwnRules {
         ensures { OnOk result (IsAdded access filter (Some self.old) (Some self.new)) }
     {
         match access {
-            Access::Read => self.reading.push(filter)?,
-            Access::Write => self.writing.push(filter)?,
+            Access::Read => self.reading.push(ProbedFilter::new(filter))?,
+            Access::Write => self.writing.push(ProbedFilter::new(filter))?,
             Access::ReadWrite => {
-                self.writing.push(filter.copy(alloc)?)?;
-                self.reading.push(filter)?;
+                let copy = filter.copy(alloc)?;
+                self.writing.push(ProbedFilter::new(copy))?;
+                self.reading.push(ProbedFilter::new(filter))?;
             }
-            Access::Deny => self.denying.push(filter)?,
+            Access::Deny => self.denying.push(ProbedFilter::new(filter))?,
         }
         Ok(())
     }

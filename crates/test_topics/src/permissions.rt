@@ -32,6 +32,45 @@ const CLIENTS: [(&str, &str, bool); 3] = [
     ("bob", "bob", false),
 ];
 
+/// Filters and topics, and whether they match (MQTT 5.0, 4.7.1 and 4.7.2).
+const MATCHES: [(&str, &str, bool); 27] = [
+    ("sport/tennis/player1", "sport/tennis/player1", true),
+    ("sport/tennis/player1", "sport/tennis/player2", false),
+    ("sport/tennis/player1", "sport/tennis/player10", false),
+    ("sport/tennis/player1/#", "sport/tennis/player1", true),
+    (
+        "sport/tennis/player1/#",
+        "sport/tennis/player1/ranking",
+        true,
+    ),
+    (
+        "sport/tennis/player1/#",
+        "sport/tennis/player1/score/wimbledon",
+        true,
+    ),
+    ("sport/tennis/player1/#", "sport/tennis/player10", false),
+    ("sport/tennis/player1/#", "sport/tennis", false),
+    ("sport/tennis/+", "sport/tennis/player1", true),
+    ("sport/tennis/+", "sport/tennis/player1/ranking", false),
+    ("sport/tennis/+", "sport/golf/player1", false),
+    ("sport/+", "sport", false),
+    ("sport/+", "sport/", true),
+    ("sport/+/player1", "sport/tennis/player1", true),
+    ("sport/+/player1", "sport//player1", true),
+    ("sport/+/player1", "sport/tennis/player2", false),
+    ("sport/+/player1", "sport/tennis/indoor/player1", false),
+    ("sport/+/+", "sport/tennis/", true),
+    ("sport/+/+", "sport/tennis", false),
+    ("sport/+/#", "sport/tennis", true),
+    ("sport/+/#", "sport", false),
+    ("+/+", "/finance", true),
+    ("/+", "/finance", true),
+    ("+", "/finance", false),
+    ("$SYS/+", "$SYS/broker", true),
+    ("+/broker", "$SYS/broker", false),
+    ("#", "$SYS/broker", false),
+];
+
 fn text(rt: &impl Abort, alloc: Global, text: &str) -> Text {
     Text::new(alloc, text).ok().expect(rt, "a text")
 }
@@ -163,6 +202,19 @@ fn all_levels_are_those_of_plus_and_hash(rt: HostRuntime) {
     assert!(&rt; p.may_subscribe(None, "c", "a"));
     assert!(&rt; p.may_subscribe(None, "c", "a/+/c/#"));
     assert!(&rt; !p.may_subscribe(None, "c", "+/b"));
+}
+
+/// Whether a rule of this filter alone lets a client read a topic.
+fn lets_read(rt: &impl Abort, alloc: Global, filter: &str, topic: &str) -> bool {
+    let index = RuleIndex::of(alloc, reading(rt, alloc, filter)).expect(rt, "memory");
+    index.may(&None, "c", Request::Read(topic))
+}
+
+#[test]
+fn rules_match_as_the_standard_says(rt: HostRuntime) {
+    for (filter, topic, matches) in MATCHES {
+        assert!(&rt; lets_read(&rt, rt.alloc(), filter, topic) == matches);
+    }
 }
 
 #[test]
