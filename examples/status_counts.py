@@ -19,6 +19,7 @@ def of_node(figures):
     total = figures["since_start"]
     return {
         f'mqtt_node_info{{node="{figures["name"]}",number="{figures["number"]}"}}': 1,
+        f'mqtt_build_info{{version="{figures["version"]}",rows="{figures["rows_version"]}"}}': 1,
         "mqtt_uptime_seconds": figures["uptime_milliseconds"] // 1000,
         "mqtt_clients_connected": figures["clients"],
         "mqtt_sessions": figures["sessions"],

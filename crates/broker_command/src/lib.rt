@@ -8,5 +8,5 @@ mod line;
 mod task;
 mod users;
 
-pub use line::task_of;
+pub use line::{VERSION, task_of};
 pub use task::{AskedDrop, AskedLimits, AskedService, AskedUsers, Task};

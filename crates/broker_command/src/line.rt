@@ -19,8 +19,8 @@ use std::alloc::{AllocError, Global};
 /// The greatest number that an option may be given.
 const MOST: u32 = 1_000_000_000;
 
-/// What `--version` says.
-const VERSION: &str = "0.1.0";
+/// The version of the program, which `--version` says.
+pub const VERSION: &str = "0.1.0";
 
 /// The task that the words after the program's name ask for. `Stop::Help` has the help or the version that they ask for
 /// instead; `Stop::CommandLine` says what is wrong with them, and `Stop::Run` that memory ran out.

@@ -11,7 +11,7 @@ mod strain;
 mod stream;
 
 pub use gauge::LaneGauge;
-pub use links::{GuardedLinks, Origins, number_of, strangers_are_not_watched};
+pub use links::{GuardedLinks, Origins, address_text, number_of, strangers_are_not_watched};
 pub use sockets::HoldingSockets;
 pub use strain::{Strain, Strained};
 pub use stream::HeldStream;

@@ -8,7 +8,7 @@ use crate::strain::Strain;
 use broker_sockets::{Answer, Readiness, Ready, Sockets, Watched};
 use std::alloc::{AllocError, Global};
 use std::io;
-use std::net::{IpAddr, SocketAddr};
+use std::net::{IpAddr, Ipv6Addr, SocketAddr};
 use std::rc::Rc;
 
 /// An IP address as a number: one of IPv4 as IPv6 maps it (RFC 4291, 2.5.5.2), so that both spellings are the same.
@@ -17,6 +17,12 @@ pub fn number_of(address: IpAddr) -> u128 {
         IpAddr::V4(address) => address.to_ipv6_mapped().to_bits(),
         IpAddr::V6(address) => address.to_bits(),
     }
+}
+
+/// An address that is given as a number, as it is written; nothing where there is none or no memory for it.
+pub fn address_text(alloc: Global, address: Option<u128>) -> Option<String> {
+    let address = Ipv6Addr::from_bits(address?).to_canonical();
+    format!(in alloc; "{address}").ok()
 }
 
 /// Sockets that tell from where a stream comes.
@@ -51,7 +57,7 @@ fn takes(bridges: &Option<Vec<u128>>, origin: Option<u128>) -> bool
 }
 
 /// Sockets over others, on which a link that another node begins is taken where it comes from the address of a bridge in the table of homes, or from anywhere. Another one
-/// can't be watched, so it is closed before anything of it is read; it is counted.
+/// can't be watched, so it is closed before anything of it is read; it is counted. From where a client came is told.
 #[derive(Drop)]
 pub struct GuardedLinks<S> {
     sockets: S,
@@ -88,11 +94,19 @@ impl<S> GuardedLinks<S> {
 }
 
 impl<S: Origins> GuardedLinks<S> {
+    /// Tells from where a client came.
+    fn note(&self, stream: &S::Stream, name: Watched) {
+        if let Watched::Client(_) = name {
+            self.strain.tell_client(self.sockets.origin(stream));
+        }
+    }
+
     /// Whether a stream may be watched: a link of another node only where it comes from one of the addresses. One that may not is counted.
     fn admits(&self, stream: &S::Stream, name: Watched) -> bool
         ensures { IsAdmittedBy S.comes_from self.now stream.now name result }
     {
         let Watched::Link(_) = name else {
+            self.note(stream, name);
             return true;
         };
         let origin = self.sockets.origin(stream);

@@ -1,4 +1,5 @@
-//! What a node and the sockets before it tell each other: whether too much waits for other nodes, which links to them stand, and from where links may come.
+//! What a node and the sockets before it tell each other: whether too much waits for other nodes, which links to them stand, from where links may come, and
+//! from where clients came.
 
 use std::alloc::{AllocError, Global};
 use std::cell::Cell;
@@ -15,8 +16,8 @@ pub struct Strained {
     pub at: u64,
 }
 
-/// Whether too much waits for another node and where the bridges of the table are, as a node tells the sockets before it, and which links stand and how many were
-/// closed since they came from elsewhere, as these tell the node.
+/// Whether too much waits for another node and where the bridges of the table are, as a node tells the sockets before it, and which links stand, how many were
+/// closed since they came from elsewhere, and from where the last client came, as these tell the node.
 #[derive(Drop)]
 pub struct Strain {
     told: Cell<Option<Strained>>,
@@ -32,6 +33,8 @@ pub struct Strain {
     refused: Cell<u64>,
     /// From where the last of them came.
     stranger: Cell<Option<u128>>,
+    /// From where the client came that is watched since last.
+    client: Cell<Option<u128>>,
 }
 
 impl Strain {
@@ -49,6 +52,7 @@ impl Strain {
             bridges: Cell::new(None),
             refused: Cell::new(0),
             stranger: Cell::new(None),
+            client: Cell::new(None),
         })
     }
 
@@ -76,6 +80,16 @@ impl Strain {
     /// From where the last of them came, where the system told that.
     pub fn stranger(&self) -> Option<u128> {
         self.stranger.get()
+    }
+
+    /// A client is watched that came from here, where the system told that.
+    pub(crate) fn tell_client(&self, origin: Option<u128>) {
+        self.client.set(origin);
+    }
+
+    /// From where the client came that is watched since last, where the system told that.
+    pub fn client(&self) -> Option<u128> {
+        self.client.get()
     }
 
     /// What was told last.

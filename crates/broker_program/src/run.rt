@@ -7,7 +7,7 @@ ghost use Rattle.door_users.specs.Files.{rights_of};
 ghost use Rattle.broker_program.specs.Given.{given_text};
 
 use crate::limits::bounds_of;
-use broker_command::{AskedDrop, AskedService, AskedUsers, Task};
+use broker_command::{AskedDrop, AskedService, AskedUsers, Task, VERSION};
 use broker_sockets::RealSockets;
 use cli_files::{print_user_line, random_salt, read_access, read_password, read_script};
 use cli_reports::{Asked, balance, check, drop_rows};
@@ -98,7 +98,11 @@ fn text_in(option: &Option<String>) -> Option<&str>
 fn status_at(asked: &AskedService) -> Option<StatusAt<'_>> {
     let address = text_in(&asked.status)?;
     let hosts = text_in(&asked.status_hosts).unwrap_or("");
-    Some(StatusAt { address, hosts })
+    Some(StatusAt {
+        version: VERSION,
+        address,
+        hosts,
+    })
 }
 
 /// Who may come and what each may do, as the files say that a command line names; none where it names no file of users.

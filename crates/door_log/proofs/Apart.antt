@@ -10,7 +10,7 @@ use Rattle.std.specs.Prelude.{codes, if◌then◌else◌, nat_lt}
 use Rattle.hex.specs.Hex.{hex_digit_value, upper_digits}
 use Rattle.hex.proofs.HexLemmas.{IsDigits-upper_digits}
 use Rattle.door_log.specs.Escaping.{digits_of, escaped, is_plain, reason_text}
-use Rattle.door_log.specs.Lines.{departure_text, earlier_text, entry_text, line_text, log_text, loss_text, told_text}
+use Rattle.door_log.specs.Lines.{departure_text, earlier_text, entry_of, entry_text, line_text, log_text, loss_text, told_text}
 use Rattle.door_log.specs.Reasons.{reasons, words_in, words_of}
 use Rattle.door_log.specs.declared.line.Departure.{Departure}
 use Rattle.door_log.specs.declared.line.Departure.TheVariants.{Closed, Lost, KeepAlive, TakenOver, Fault}
@@ -169,9 +169,17 @@ line_one (LeftOut loss number) =
     joined (codes "left out " ++ loss_text loss ++ codes " ") (decimal number)
     (joined (codes "left out " ++ loss_text loss) (codes " ") (joined (codes "left out ") (loss_text loss) refl (loss_one loss)) refl) (decimal_one number)
 
+-- a text at the front, and a space
+before : (front more : List ℕ) → IsOne front → IsOne more → IsOne (front ++ codes " " ++ more)
+before front more p q = joined (front ++ codes " ") more (joined front (codes " ") p refl) q
+
+of_origin : (at : ℕ) (origin : Option (List ℕ)) (line : LogLine) → IsOne (entry_of at origin line)
+of_origin at None line = before (decimal at) (line_text line) (decimal_one at) (line_one line)
+of_origin at (Some origin) line =
+    before (decimal at ++ codes " " ++ escaped origin) (line_text line) (before (decimal at) (escaped origin) (decimal_one at) (escaped_one origin)) (line_one line)
+
 entry_one : (entry : LogEntry) → IsOne (entry_text entry)
-entry_one entry =
-    joined (decimal entry.at ++ codes " ") (line_text entry.line) (joined (decimal entry.at) (codes " ") (decimal_one entry.at) refl) (line_one entry.line)
+entry_one entry = of_origin entry.at entry.origin entry.line
 
 -- ---- texts
 

@@ -14,9 +14,9 @@ use Rattle.door_log.specs.declared.notes.Notes.{Notes}
 abbrev pub noting : {W : Type 0} → (Notes → Notes) → Log W → Log W
 noting f l = record l { notes = f l.notes }
 
--- the event is noted, and then what was given out at it
-abbrev pub logged : Event → List Output → Notes → Notes
-logged e outputs n = after e.at outputs (met e.at e.kind n)
+-- the event is noted, with from where a client came that is let in, and then what was given out at it
+abbrev pub logged : Option (List ℕ) → Event → List Output → Notes → Notes
+logged origin e outputs n = after e.at outputs (met origin e.at e.kind n)
 
 abbrev pub logged_peer : PeerEvent → Given → Notes → Notes
 logged_peer e given n = after e.at given.outputs.items (heard e.at e.kind n)
@@ -25,7 +25,8 @@ module _ {H W : Type 0} where
   -- the handler inside is told the event, and just what it gives out goes out
   pub record IsAnswered (handles : H → Event → List Output → H → Type 0) (d : Logged H W) (e : Event) (outputs : List Output) (d' : Logged H W) : Type 0 where
     pub answered : handles d.inside e outputs d'.inside
-    pub noted : d'.log ≡ option_map (noting (logged e outputs)) d.log
+    pub origin : Option (List ℕ)
+    pub noted : d'.log ≡ option_map (noting (logged origin e outputs)) d.log
 
   -- the same of what other nodes bring about
   pub record IsHeard (hears : H → PeerEvent → Given → H → Type 0) (d : Logged H W) (e : PeerEvent) (given : Given) (d' : Logged H W) : Type 0 where

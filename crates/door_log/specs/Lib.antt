@@ -5,6 +5,7 @@ pub mod Laws
 pub mod LineLaws
 pub mod Lines
 pub mod Noting
+pub mod Origins
 pub mod Reasons
 pub mod Stages
 pub mod Telling

@@ -48,9 +48,13 @@ line_text (LinkUp peer) = codes "link " ++ decimal peer ++ codes " up"
 line_text (LinkDown peer) = codes "link " ++ decimal peer ++ codes " down"
 line_text (LeftOut loss number) = codes "left out " ++ loss_text loss ++ codes " " ++ decimal number
 
--- the moment first
+-- the moment first, and then from where the client came, where that is known
+abbrev pub entry_of : ℕ → Option (List ℕ) → LogLine → List ℕ
+entry_of at None line = decimal at ++ codes " " ++ line_text line
+entry_of at (Some origin) line = decimal at ++ codes " " ++ escaped origin ++ codes " " ++ line_text line
+
 abbrev pub entry_text : LogEntry → List ℕ
-entry_text entry = decimal entry.at ++ codes " " ++ line_text entry.line
+entry_text entry = entry_of entry.at entry.origin entry.line
 
 -- each behind the other, with a newline after each
 abbrev pub log_text : List LogEntry → List ℕ

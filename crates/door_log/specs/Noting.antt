@@ -11,16 +11,21 @@ use Rattle.broker_sockets.specs.declared.events.Output.TheVariants.{Send, Close}
 use Rattle.door_log.specs.declared.line.LogLine.{LogLine}
 use Rattle.door_log.specs.declared.line.LogLine.TheVariants.{LinkUp, LinkDown, LeftOut}
 use Rattle.door_log.specs.declared.line.Loss.{Loss}
+use Rattle.door_log.specs.Origins.{came_from}
 use Rattle.door_log.specs.Upshots.{Upshot, closing, upshot_of, losing}
 use Rattle.door_log.specs.Stages.{Stages, more_of}
 use Rattle.door_log.specs.declared.clients.Stage.{Stage}
 use Rattle.door_log.specs.declared.clients.Stage.TheVariants.{Coming, Accepted}
 use Rattle.door_log.specs.declared.notes.Notes.{Notes}
 
--- a line is due, if there is one
+-- a line is due, if there is one, of a client from somewhere
+abbrev pub told_of : ℕ → Option (List ℕ) → Option LogLine → Notes → Notes
+told_of at origin None n = n
+told_of at origin (Some line) n = record n { due = n.due ++ record { at = at; origin = origin; line = line } ∷ [] }
+
+-- of no client
 abbrev pub told : ℕ → Option LogLine → Notes → Notes
-told at None n = n
-told at (Some line) n = record n { due = n.due ++ record { at = at; line = line } ∷ [] }
+told at line n = told_of at None line n
 
 -- ---- clients
 
@@ -29,7 +34,7 @@ put c None stages = map.remove stages c
 put c (Some stage) stages = map.insert stages c stage
 
 abbrev pub turned : ℕ → ℕ → Upshot → Notes → Notes
-turned at c upshot n = told at (Some upshot.1) (record n { clients = put c upshot.0 n.clients })
+turned at c upshot n = told_of at (map.get n.origins c) (Some upshot.1) (record n { clients = put c upshot.0 n.clients })
 
 abbrev pub turned_if : ℕ → ℕ → Option Upshot → Notes → Notes
 turned_if at c None n = n
@@ -41,11 +46,13 @@ sent at c bytes n = turned_if at c (option_and_then (upshot_of bytes) (map.get n
 
 -- it is closed
 abbrev pub closed : ℕ → ℕ → Notes → Notes
-closed at c n = told at (option_map closing (map.get n.clients c)) (record n { clients = map.remove n.clients c })
+closed at c n =
+    told_of at (map.get n.origins c) (option_map closing (map.get n.clients c)) (record n { clients = map.remove n.clients c; origins = map.remove n.origins c })
 
 -- it is lost
 abbrev pub lost : ℕ → ℕ → Notes → Notes
-lost at c n = told at (option_and_then losing (map.get n.clients c)) (record n { clients = map.remove n.clients c })
+lost at c n =
+    told_of at (map.get n.origins c) (option_and_then losing (map.get n.clients c)) (record n { clients = map.remove n.clients c; origins = map.remove n.origins c })
 
 -- what came on it is kept until it is answered
 abbrev pub came_on : ℕ → List ℕ → Option Stage → Notes → Notes
@@ -61,14 +68,14 @@ is_coming None = false
 is_coming (Some (Coming held)) = true
 is_coming (Some (Accepted name)) = false
 
--- what the sockets tell
-abbrev pub met : ℕ → EventKind → Notes → Notes
-met at Started n = n
-met at (Opened connection) n = record n { clients = map.insert n.clients connection (Coming []) }
-met at (Piece connection bytes) n = came connection bytes.items n
-met at (Room connection bytes) n = n
-met at (Closed connection) n = lost at connection n
-met at Tick n = n
+-- what the sockets tell, and from where a client came that is let in
+abbrev pub met : Option (List ℕ) → ℕ → EventKind → Notes → Notes
+met origin at Started n = n
+met origin at (Opened connection) n = record n { clients = map.insert n.clients connection (Coming []); origins = came_from connection origin n.origins }
+met origin at (Piece connection bytes) n = came connection bytes.items n
+met origin at (Room connection bytes) n = n
+met origin at (Closed connection) n = lost at connection n
+met origin at Tick n = n
 
 -- what is given out, in order
 abbrev pub after_one : ℕ → Output → Notes → Notes

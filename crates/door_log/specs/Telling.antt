@@ -1,5 +1,5 @@
 -- Which losses are told, and when.
-use Rattle.std.specs.Prelude.{◌≡◌, ℕ, suc, ◌-◌, ◌==◌, ◌&&◌, ◌||◌, Bool, Option, List, [], ◌∷◌, ◌++◌, nat_lt, nat_le, slice_index_or, slice_set, if◌then◌else◌}
+use Rattle.std.specs.Prelude.{◌≡◌, ℕ, suc, ◌-◌, ◌==◌, ◌&&◌, ◌||◌, Bool, Option, None, List, [], ◌∷◌, ◌++◌, nat_lt, nat_le, slice_index_or, slice_set, if◌then◌else◌}
 use Rattle.std.specs.Io.KnownBytes.{Appends}
 use Rattle.door_log.specs.Lines.{log_text}
 use Rattle.door_log.specs.declared.line.LogLine.TheVariants.{LeftOut}
@@ -27,7 +27,7 @@ Telling = List Noted × List ℕ
 abbrev pub one_told : ℕ → ℕ → Loss × ℕ → Telling → Telling
 one_told at place loss t =
     if is_due at (noted_at place t.0) loss.1
-    then (slice_set t.0 place (record { count = loss.1; at = at }), t.1 ++ log_text (record { at = at; line = LeftOut loss.0 loss.1 } ∷ []))
+    then (slice_set t.0 place (record { count = loss.1; at = at }), t.1 ++ log_text (record { at = at; origin = None; line = LeftOut loss.0 loss.1 } ∷ []))
     else t
 
 -- losses from a place on

@@ -14,6 +14,7 @@ mended true = 10 ∷ []
 -- a log that is written here, and knows nothing yet
 pub record IsNew {W : Type 0} (writer : W) (l : Log W) : Type 0 where
   pub clients : l.notes.clients ≡ map.empty
+  pub origins : l.notes.origins ≡ map.empty
   pub up : l.notes.up ≡ set.empty
   pub due : l.notes.due ≡ []
   pub error : l.error ≡ writer

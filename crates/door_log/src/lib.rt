@@ -15,6 +15,7 @@ mod log;
 mod logged;
 mod losses;
 mod notes;
+mod origins;
 mod peers;
 mod reason;
 mod upshots;

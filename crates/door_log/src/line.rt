@@ -68,10 +68,12 @@ pub enum LogLine {
     LeftOut(Loss, u64),
 }
 
-/// A line and its moment, in milliseconds since the beginning of 1970. Its `Display` is the moment, a space and the line, without a newline at its end.
+/// A line and its moment, in milliseconds since the beginning of 1970, and from where its client came, where that is known. Its `Display` is the moment, the
+/// address and the line, with a space between them and without a newline at its end.
 #[derive(Drop)]
 pub struct LogEntry {
     pub at: u64,
+    pub origin: Option<Text>,
     pub line: LogLine,
 }
 
@@ -160,6 +162,12 @@ impl fmt::Display for LogEntry {
     fn fmt<W: fmt::Write>(&self, f: &mut fmt::Formatter<W>) -> fmt::Result {
         let at = self.at;
         let line = &self.line;
-        write!(f, "{at} {line}")
+        match &self.origin {
+            Some(origin) => {
+                let origin = Escaped(origin.as_str().as_bytes());
+                write!(f, "{at} {origin} {line}")
+            }
+            None => write!(f, "{at} {line}"),
+        }
     }
 }

@@ -8,10 +8,12 @@ ghost use Rattle.door_log.specs.Writing.{IsNew, IsWrittenIf};
 use crate::Loss;
 use crate::fault::LoggedFault;
 use crate::log::Log;
-use broker_sockets::{BridgeHandler, Event, Given, Handler, Output, PeerEvent};
-use mqtt_fields::NoMemory;
+use broker_holds::Strain;
+use broker_sockets::{BridgeHandler, Event, EventKind, Given, Handler, Output, PeerEvent};
+use mqtt_fields::{NoMemory, Text};
 use std::alloc::Global;
 use std::io::Write;
+use std::rc::Rc;
 
 /// A handler behind a door with a log, if there is one. The handler inside is told all, and just what it gives out goes out. From what is
 /// told and given out the log knows who is accepted, refused and gone and which links are up, and it writes its lines after the handler has
@@ -22,25 +24,41 @@ pub struct Logged<H, W> {
     log: Option<Log<W>>,
 }
 
-/// A log that is written here, where a writer is given.
-fn log_to<W>(alloc: Global, error: Option<W>) -> Option<Log<W>>
+/// A log that is written here, where a writer is given, and to which it is told from where clients came.
+fn log_to<W>(alloc: Global, error: Option<W>, strain: Option<Rc<Strain>>) -> Option<Log<W>>
     ensures { MatchOption error (result ≡ None) (λ w. IsSomeAnd result (λ l. IsNew w l)) }
 {
     match error {
-        Some(error) => Some(Log::new(alloc, error)),
+        Some(error) => Some(Log::new(alloc, error, strain)),
         None => None,
     }
 }
 
 impl<H, W> Logged<H, W> {
-    /// A door with a log that is written here, or with none. The log knows of no connection and no link.
+    /// A door with a log that is written here, or with none. The log knows of no connection and no link, and from where no client came.
     pub fn new(alloc: Global, error: Option<W>, inside: H) -> Logged<H, W>
         ensures inside { result.inside ≡ inside }
         ensures log { MatchOption error (result.log ≡ None) (λ w. IsSomeAnd result.log (λ l. IsNew w l)) }
     {
         Logged {
             inside,
-            log: log_to(alloc, error),
+            log: log_to(alloc, error, None),
+        }
+    }
+
+    /// The same, with a log to which the sockets before it tell here from where clients came, if they do.
+    pub fn with_origins(
+        alloc: Global,
+        error: Option<W>,
+        strain: Option<Rc<Strain>>,
+        inside: H,
+    ) -> Logged<H, W>
+        ensures inside { result.inside ≡ inside }
+        ensures log { MatchOption error (result.log ≡ None) (λ w. IsSomeAnd result.log (λ l. IsNew w l)) }
+    {
+        Logged {
+            inside,
+            log: log_to(alloc, error, strain),
         }
     }
 
@@ -52,14 +70,22 @@ impl<H, W> Logged<H, W> {
     }
 }
 
+/// From where the client came that is let in, where there is a log that knows it.
+fn origin_of<W>(log: &Option<Log<W>>, event: &Event) -> Option<Text> {
+    match &event.kind {
+        EventKind::Opened { .. } => log.as_ref()?.origin(),
+        _ => None,
+    }
+}
+
 /// Notes an event, where there is a log.
-fn meet<W>(log: &mut Option<Log<W>>, event: &Event) -> Result<(), NoMemory>
-    ensures ok { OnOk result (log.new ≡ option_map (noting (met event.now.at event.now.kind)) log.old) }
+fn meet<W>(log: &mut Option<Log<W>>, event: &Event, origin: Option<Text>) -> Result<(), NoMemory>
+    ensures ok { OnOk result (log.new ≡ option_map (noting (met origin event.now.at event.now.kind)) log.old) }
     ensures err { OnErr result (is_none log.old ≡ false) }
     ensures same { is_none log.new ≡ is_none log.old }
 {
     match log {
-        Some(log) => log.notes.meet(event),
+        Some(log) => log.notes.meet(event, origin),
         None => Ok(()),
     }
 }
@@ -135,7 +161,8 @@ impl<H: Handler, W: Write> Handler for Logged<H, W> {
     /// Tells the handler inside, and notes what comes of it.
     fn handle(&mut self, event: Event) -> Result<Vec<Output>, LoggedFault<H::Fault>> {
         let at = event.at;
-        meet(&mut self.log, &event)?;
+        let origin = origin_of(&self.log, &event);
+        meet(&mut self.log, &event, origin)?;
         match self.inside.handle(event) {
             Ok(outputs) => {
                 note(&mut self.log, at, &outputs)?;

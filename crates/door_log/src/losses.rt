@@ -78,6 +78,7 @@ fn tell_one(
     }
     let entry = LogEntry {
         at,
+        origin: None,
         line: LogLine::LeftOut(kind, count),
     };
     writeln!(text, "{entry}")

@@ -3,28 +3,31 @@
 ghost use Rattle.std.specs.Prelude.{◌≡◌, [], IfOk, OnOk, Some};
 ghost use Rattle.std.specs.FinMap as map;
 ghost use Rattle.std.specs.FinSet as set;
-ghost use Rattle.door_log.specs.Noting.{after, after_one, all_counted, came, closed, counted, heard, is_coming, linked, lost, met, sent, shipped, told, turned};
+ghost use Rattle.door_log.specs.Noting.{after, after_one, all_counted, came, closed, counted, heard, is_coming, linked, lost, met, sent, shipped, told, told_of, turned};
+ghost use Rattle.door_log.specs.Origins.{came_from};
 ghost use Rattle.door_log.specs.Stages.{more_of};
 ghost use Rattle.door_log.specs.declared.clients.Stage.TheVariants.{Coming};
 
 use crate::clients::{Clients, Stage};
 use crate::lines::Lines;
+use crate::origins::Addresses;
 use crate::peers::Peers;
 use crate::upshots::{Upshot, closing, losing, upshot_of};
 use crate::{LogEntry, LogLine, Loss};
 use broker_sockets::{Event, EventKind, Output, PeerEvent, PeerEventKind};
-use mqtt_fields::NoMemory;
+use mqtt_fields::{NoMemory, Text};
 use mqtt_packets::Bytes;
 use std::alloc::Global;
 
 /// The most bytes that are kept of what comes before a CONNECT is answered.
 const MOST_KEPT: usize = 1_048_576;
 
-/// What a log knows: the connections of clients that are open, the peers whose links are up, and the lines that are due.
+/// What a log knows: the connections of clients that are open and from where these came, the peers whose links are up, and the lines that are due.
 #[derive(Drop)]
 pub(crate) struct Notes {
     pub(crate) alloc: Global,
     pub(crate) clients: Clients,
+    pub(crate) origins: Addresses,
     pub(crate) up: Peers,
     pub(crate) due: Lines,
 }
@@ -43,12 +46,14 @@ impl Notes {
     /// No connection is open, no link is up, and no line is due.
     pub(crate) fn new(alloc: Global) -> Notes
         ensures clients { result.clients ≡ map.empty }
+        ensures origins { result.origins ≡ map.empty }
         ensures up { result.up ≡ set.empty }
         ensures due { result.due ≡ [] }
     {
         Notes {
             alloc,
             clients: Clients::new(alloc),
+            origins: Addresses::new(alloc),
             up: Peers::new(alloc),
             due: Lines::new(alloc),
         }
@@ -58,24 +63,41 @@ impl Notes {
     fn tell(&mut self, at: u64, line: LogLine) -> Result<(), NoMemory>
         ensures { OnOk result (self.new ≡ told at (Some line) self.old) }
     {
-        self.due.push(LogEntry { at, line })
+        self.due.push(LogEntry {
+            at,
+            origin: None,
+            line,
+        })
     }
 
-    /// A line is due, if there is one.
-    fn tell_if(&mut self, at: u64, line: Option<LogLine>) -> Result<(), NoMemory>
-        ensures { OnOk result (self.new ≡ told at line self.old) }
+    /// A line is due, of a client from somewhere.
+    fn tell_of(&mut self, at: u64, origin: Option<Text>, line: LogLine) -> Result<(), NoMemory>
+        ensures { OnOk result (self.new ≡ told_of at origin (Some line) self.old) }
+    {
+        self.due.push(LogEntry { at, origin, line })
+    }
+
+    /// A line is due, if there is one, of a client from somewhere.
+    fn tell_if(
+        &mut self,
+        at: u64,
+        origin: Option<Text>,
+        line: Option<LogLine>,
+    ) -> Result<(), NoMemory>
+        ensures { OnOk result (self.new ≡ told_of at origin line self.old) }
     {
         match line {
-            Some(line) => self.tell(at, line),
+            Some(line) => self.tell_of(at, origin, line),
             None => Ok(()),
         }
     }
 
-    /// A connection is open.
-    fn open(&mut self, connection: u64) -> Result<(), NoMemory>
-        ensures { OnOk result (self.new ≡ record self.old { clients = map.insert self.old.clients connection (Coming []) }) }
+    /// A connection is open, of a client from somewhere.
+    fn open(&mut self, connection: u64, origin: Option<Text>) -> Result<(), NoMemory>
+        ensures { OnOk result (self.new ≡ record self.old { clients = map.insert self.old.clients connection (Coming []); origins = came_from connection origin self.old.origins }) }
     {
         let nothing = Bytes::new(Vec::new(self.alloc));
+        self.origins.put(connection, origin)?;
         self.clients.put(connection, Stage::Coming(nothing))
     }
 
@@ -109,8 +131,9 @@ impl Notes {
     fn close(&mut self, at: u64, connection: u64) -> Result<(), NoMemory>
         ensures { OnOk result (self.new ≡ closed at connection self.old) }
     {
+        let origin = self.origins.take(connection);
         match self.clients.take(connection) {
-            Some(stage) => self.tell(at, closing(stage)),
+            Some(stage) => self.tell_of(at, origin, closing(stage)),
             None => Ok(()),
         }
     }
@@ -119,8 +142,9 @@ impl Notes {
     fn lose(&mut self, at: u64, connection: u64) -> Result<(), NoMemory>
         ensures { OnOk result (self.new ≡ lost at connection self.old) }
     {
+        let origin = self.origins.take(connection);
         match self.clients.take(connection) {
-            Some(stage) => self.tell_if(at, losing(stage)),
+            Some(stage) => self.tell_if(at, origin, losing(stage)),
             None => Ok(()),
         }
     }
@@ -130,13 +154,14 @@ impl Notes {
         ensures { OnOk result (self.new ≡ turned at connection upshot self.old) }
     {
         let (stage, line) = upshot;
+        let origin = self.origins.copy_of(self.alloc, connection)?;
         match stage {
             Some(stage) => self.clients.put(connection, stage)?,
             None => {
                 self.clients.take(connection);
             }
         }
-        self.tell(at, line)
+        self.tell_of(at, origin, line)
     }
 
     /// Bytes are sent on a connection.
@@ -152,13 +177,13 @@ impl Notes {
         }
     }
 
-    /// What the sockets tell of clients, before it is answered.
-    pub(crate) fn meet(&mut self, event: &Event) -> Result<(), NoMemory>
-        ensures { OnOk result (self.new ≡ met event.now.at event.now.kind self.old) }
+    /// What the sockets tell of clients, before it is answered, and from where a client came that is let in.
+    pub(crate) fn meet(&mut self, event: &Event, origin: Option<Text>) -> Result<(), NoMemory>
+        ensures { OnOk result (self.new ≡ met origin event.now.at event.now.kind self.old) }
     {
         match &event.kind {
             EventKind::Started | EventKind::Room { .. } | EventKind::Tick => Ok(()),
-            EventKind::Opened { connection } => self.open(*connection),
+            EventKind::Opened { connection } => self.open(*connection, origin),
             EventKind::Piece { connection, bytes } => self.come(*connection, bytes),
             EventKind::Closed { connection } => self.lose(event.at, *connection),
         }

@@ -18,11 +18,12 @@ use Rattle.status_tally.specs.declared.tally.Tally.{Tally}
 pub record Shows (w : World) (i : ℕ) (figures : Figures) : Type 0 where
   pub held : HeldView
   pub holds : Holds w i held
+  pub program : List ℕ
   pub name : List ℕ
   pub since : ℕ
   pub at : ℕ
   pub tally : Tally
-  pub are : AreFigures name since at holds.site.node held tally figures
+  pub are : AreFigures program name since at holds.site.node held tally figures
 
 -- a node has taken each operation that another one has taken
 abbrev pub HasAllOf : List Played → ℕ → ℕ → Type 0

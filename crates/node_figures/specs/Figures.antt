@@ -2,6 +2,7 @@
 use Rattle.std.specs.Prelude.{◌≡◌, ℕ, ◌-◌, List, length, map, string_bytes}
 use Rattle.std.specs.FinMap as fin_map
 use Rattle.node_figures.specs.Peers.{address_of, bridge_of, others, peer_at, seen}
+use Rattle.node_figures.specs.Rows.{IsRowsVersion}
 use Rattle.node_work.specs.View.{HeldView, NodeView}
 use Rattle.node_work.specs.declared.counts.Counts.{Counts}
 use Rattle.replica_store.specs.Retained.{with_message}
@@ -23,8 +24,10 @@ left_out counts = record {
   tables_refused = counts.tables_refused;
 }
 
--- the figures of a node of this name that runs since a moment, at another one, by what it holds and what was counted before it
-pub record AreFigures (own_name : List ℕ) (since at : ℕ) (n : NodeView) (h : HeldView) (tally : Tally) (f : Figures) : Type 0 where
+-- the figures of a node of this name, under a program of this version, that runs since a moment, at another one, by what it holds and what was counted before it
+pub record AreFigures (program own_name : List ℕ) (since at : ℕ) (n : NodeView) (h : HeldView) (tally : Tally) (f : Figures) : Type 0 where
+  pub version : string_bytes f.version ≡ program
+  pub rows : IsRowsVersion f.rows
   pub name : string_bytes f.name ≡ own_name
   pub number : f.number ≡ n.place.id
   pub address : string_bytes f.address ≡ address_of n.homes n.place.id

@@ -1,3 +1,4 @@
 pub mod Counts
 pub mod Figures
 pub mod Peers
+pub mod Rows

@@ -6,6 +6,7 @@ mod count;
 mod laws;
 mod node;
 mod peers;
+mod rows;
 
 pub use count::count_lacking;
 pub use laws::none_lacks_where_all_are_known;

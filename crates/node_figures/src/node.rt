@@ -5,6 +5,7 @@ ghost use Rattle.node_figures.specs.Figures.{AreFigures, left_out};
 ghost use Rattle.node_work.specs.View.{HeldView};
 
 use crate::peers::{own_address, own_bridge, peers_of};
+use crate::rows::rows_version;
 use broker_node::Node;
 use mqtt_fields::NoMemory;
 use node_work::Counts;
@@ -36,11 +37,12 @@ fn copy_of(alloc: Global, text: Option<&str>) -> Result<Option<String>, NoMemory
     }
 }
 
-/// The figures of a node of this name that runs since a moment, at another moment, both in milliseconds, with what a door before it has
+/// The figures of a node of this name, under a program of this version, that runs since a moment, at another moment, both in milliseconds, with what a door before it has
 /// counted, why what is found in the file of its table of homes isn't taken, where it isn't, and what its users were not allowed. Nothing else is said
 /// of them once the node has stopped. They don't tell what the program takes of its machine.
 pub fn figures_of(
     alloc: Global,
+    version: &str,
     name: &str,
     since: u64,
     node: &Node,
@@ -51,8 +53,9 @@ pub fn figures_of(
 ) -> Result<Figures, NoMemory>
     ensures refusal { IfOk result (λ figures. option_map string_bytes figures.refusal ≡ option_map (λ r. r.now) refusal.entry) }
     ensures not_allowed { IfOk result (λ figures. figures.not_allowed ≡ not_allowed) }
-    ensures figures { IfOk result (λ figures. (h : HeldView) → node.now.up ≡ Some h → AreFigures name.now since at node.now h tally.now figures) }
+    ensures figures { IfOk result (λ figures. (h : HeldView) → node.now.up ≡ Some h → AreFigures version.now name.now since at node.now h tally.now figures) }
 {
+    let version = String::from_str(alloc, version)?;
     let name = String::from_str(alloc, name)?;
     let address = own_address(alloc, node)?;
     let bridge = own_bridge(alloc, node)?;
@@ -62,6 +65,8 @@ pub fn figures_of(
     let ended = tally.ended(alloc)?;
     let store = node.store();
     Ok(Figures {
+        version,
+        rows: rows_version(),
         name,
         number: node.id(),
         address,

@@ -27,16 +27,17 @@ of_users_told n links told is = is ∙ ap (λ (l : ℕ). not_allowed_by n l) (sy
 -- the figures of the node that is found behind one door after another
 pub told_of : {R F G E : Type 0} (d : TalliedNode R F G E) (logged : LoggedNode R F G E) (limited : LimitedNode R F G) (bounded : BoundedNode R F G)
     (guarded : GuardedNode R F) (tabled : TabledNode R F) (served : ServedNode R) (n : NodeView) → logged ≡ inside_of d → limited ≡ logged_in logged → bounded ≡ limited_in limited → guarded ≡ bounded_in bounded → tabled ≡ guarded_in guarded → served ≡ tabled_in tabled → n ≡ node_in (keeper_of served)
-    → (teller : NodeTeller) (name : List ℕ) (at : ℕ) (tally : Tally) (figures : Figures) → Some tally ≡ tally_of d → name ≡ string_bytes teller.name
-    → ((h : HeldView) → n.up ≡ Some h → AreFigures name teller.since at n h tally figures) → (refusals : Refusals) (links : ℕ) → refusals ≡ refusals_of guarded.door → figures.not_allowed ≡ not_allowed_by refusals links → IsTold teller d at figures
-told_of {R = R} {F = F} {G = G} {E = E} d logged limited bounded guarded tabled served n is_logged is_limited is_bounded is_guarded is_tabled is_served is_node teller name at tally figures counts named are refusals links counted not_allowed =
+    → (teller : NodeTeller) (version name : List ℕ) (at : ℕ) (tally : Tally) (figures : Figures) → Some tally ≡ tally_of d → version ≡ string_bytes teller.version → name ≡ string_bytes teller.name
+    → ((h : HeldView) → n.up ≡ Some h → AreFigures version name teller.since at n h tally figures) → (refusals : Refusals) (links : ℕ) → refusals ≡ refusals_of guarded.door → figures.not_allowed ≡ not_allowed_by refusals links → IsTold teller d at figures
+told_of {R = R} {F = F} {G = G} {E = E} d logged limited bounded guarded tabled served n is_logged is_limited is_bounded is_guarded is_tabled is_served is_node teller version name at tally figures counts versioned named are refusals links counted not_allowed =
     let found_limited : limited ≡ logged_in (inside_of d) = is_limited ∙ ap (λ (l : LoggedNode R F G E). logged_in l) is_logged in
     let found_bounded : bounded ≡ limited_in (logged_in (inside_of d)) = is_bounded ∙ ap (λ (l : LimitedNode R F G). limited_in l) found_limited in
     let found_guarded : guarded ≡ bounded_in (limited_in (logged_in (inside_of d))) = is_guarded ∙ ap (λ (b : BoundedNode R F G). bounded_in b) found_bounded in
     let found_tabled : tabled ≡ guarded_in (bounded_in (limited_in (logged_in (inside_of d)))) = is_tabled ∙ ap (λ (g : GuardedNode R F). guarded_in g) found_guarded in
     let found_served : served ≡ served_behind d = is_served ∙ ap (λ (t : TabledNode R F). tabled_in t) found_tabled in
     let node : n ≡ node_in (keeper_of (served_behind d)) = is_node ∙ ap (λ (s : ServedNode R). node_in (keeper_of s)) found_served in
-    let Named : List ℕ → Type 0 = λ x. (h : HeldView) → n.up ≡ Some h → AreFigures x teller.since at n h tally figures in
-    let Found : NodeView → Type 0 = λ m. (h : HeldView) → m.up ≡ Some h → AreFigures (string_bytes teller.name) teller.since at m h tally figures in
+    let Versioned : List ℕ → Type 0 = λ x. (h : HeldView) → n.up ≡ Some h → AreFigures x name teller.since at n h tally figures in
+    let Named : List ℕ → Type 0 = λ x. (h : HeldView) → n.up ≡ Some h → AreFigures (string_bytes teller.version) x teller.since at n h tally figures in
+    let Found : NodeView → Type 0 = λ m. (h : HeldView) → m.up ≡ Some h → AreFigures (string_bytes teller.version) (string_bytes teller.name) teller.since at m h tally figures in
     let of_users : refusals ≡ refusals_of (guarded_behind d).door = counted ∙ ap (λ (g : GuardedNode R F). refusals_of g.door) found_guarded in
-    record { tally = tally; counts = sym counts; are = subst Found node (subst Named named are); not_allowed = of_users_told (refusals_of (guarded_behind d).door) links figures.not_allowed (not_allowed ∙ ap (λ (r : Refusals). not_allowed_by r links) of_users) }
+    record { tally = tally; counts = sym counts; are = subst Found node (subst Named named (subst Versioned versioned are)); not_allowed = of_users_told (refusals_of (guarded_behind d).door) links figures.not_allowed (not_allowed ∙ ap (λ (r : Refusals). not_allowed_by r links) of_users) }

@@ -42,5 +42,5 @@ pub record IsTold {R F G E : Type 0} (teller : NodeTeller) (d : TalliedNode R F 
   pub tally : Tally
   pub counts : tally_of d ≡ Some tally
   pub are : (h : HeldView) → (node_in (keeper_of (served_behind d))).up ≡ Some h
-      → AreFigures (string_bytes teller.name) teller.since at (node_in (keeper_of (served_behind d))) h tally figures
+      → AreFigures (string_bytes teller.version) (string_bytes teller.name) teller.since at (node_in (keeper_of (served_behind d))) h tally figures
   pub not_allowed : IsOfUsers (refusals_of (guarded_behind d).door) figures.not_allowed

@@ -153,6 +153,17 @@ fn tally_if(alloc: Global, wanted: bool, nodes: u16) -> Result<Option<Tally>, Ru
     }
 }
 
+/// Another hold on what the sockets and the node tell each other, where they do.
+fn shared(strain: &Option<Rc<Strain>>) -> Result<Option<Rc<Strain>>, RunFault> {
+    let Some(strain) = strain else {
+        return Ok(None);
+    };
+    match strain.clone() {
+        Ok(strain) => Ok(Some(strain)),
+        Err(_) => Err(RunFault::NoMemory),
+    }
+}
+
 /// Starts a node, to which newer tables of homes come from here, if there may be any, behind these users, if there are any, these limits on what clients send, with a gauge of memory, and
 /// these on clients, behind a log, if there is a writer for that, and behind a status, if there is a desk for it, and makes so many turns over the clients that
 /// come and the other nodes. What the node leaves out is told while it runs, if there is a writer for that, and the log tells it where all turns were made.
@@ -186,6 +197,7 @@ fn run_node<
     requires newest { IsNotOlder (node_of keeper) }
 {
     let nodes = keeper.node().homes().nodes();
+    let origins = shared(&strain)?;
     let tally = tally_if(alloc, desk.is_some(), nodes)?;
     let Ok(lanes) = watch_of(alloc, nodes, strain) else {
         return Err(RunFault::NoMemory);
@@ -200,7 +212,7 @@ fn run_node<
     let guarded = Guarded::new(alloc, access, tabled);
     let bounded = Bounded::new(alloc, asked, gauge, guarded);
     let limited = Limited::new(alloc, limits, bounded);
-    let logged = Logged::new(alloc, error, limited);
+    let logged = Logged::with_origins(alloc, error, origins, limited);
     let watchers = Watchers::new(alloc, desk, losses)?;
     let viewed = Viewed::new(Tallied::new(logged, tally), Some(watchers));
     let mut node = Mqtt3::new(alloc, mqtt3, viewed);

@@ -22,6 +22,8 @@ pub struct StatusPlace<'a, Z, U> {
     pub sockets: Z,
     pub machine: U,
     pub keys: RandomState,
+    /// The version of the program, as it is told.
+    pub version: &'a str,
     /// The node's name, as it is told.
     pub name: &'a str,
     pub address: &'a str,
@@ -29,21 +31,33 @@ pub struct StatusPlace<'a, Z, U> {
     pub hosts: &'a str,
 }
 
-/// Tells the figures of a node of this name, which runs since a moment in milliseconds, behind its doors.
+/// Tells the figures of a node of this name, under a program of this version, which runs since a moment in milliseconds, behind its doors.
 #[derive(Drop)]
 pub struct NodeTeller {
+    version: String,
     name: String,
     since: u64,
 }
 
 impl NodeTeller {
-    /// Tells of a node of this name that runs since this moment.
-    pub fn new(alloc: Global, name: &str, since: u64) -> Result<NodeTeller, AllocError>
+    /// Tells of a node of this name, under a program of this version, that runs since this moment.
+    pub fn new(
+        alloc: Global,
+        version: &str,
+        name: &str,
+        since: u64,
+    ) -> Result<NodeTeller, AllocError>
+        ensures version { IfOk result (λ teller. string_bytes teller.version ≡ version.now) }
         ensures name { IfOk result (λ teller. string_bytes teller.name ≡ name.now) }
         ensures since { IfOk result (λ teller. teller.since ≡ since) }
     {
+        let version = String::from_str(alloc, version)?;
         let name = String::from_str(alloc, name)?;
-        Ok(NodeTeller { name, since })
+        Ok(NodeTeller {
+            version,
+            name,
+            since,
+        })
     }
 }
 
@@ -89,9 +103,12 @@ impl<R: RowStore, F: Tables, G, E> Teller<TalliedNode<R, F, G, E>> for NodeTelle
         let served = tabled.inside();
         let links = served.links_refused();
         let node = served.node();
+        let version = self.version.as_str();
+        let name = self.name.as_str();
         match figures_of(
             alloc,
-            self.name.as_str(),
+            version,
+            name,
             self.since,
             node,
             tally,
@@ -116,6 +133,7 @@ pub(crate) fn open_desk<Z: Sockets + Drop, U: Drop>(
         mut sockets,
         machine,
         keys,
+        version,
         name,
         address,
         hosts,
@@ -126,7 +144,7 @@ pub(crate) fn open_desk<Z: Sockets + Drop, U: Drop>(
     let Ok(desk) = Desk::new(alloc, keys, listener, hosts) else {
         return Err(RunFault::NoMemory);
     };
-    match NodeTeller::new(alloc, name, since) {
+    match NodeTeller::new(alloc, version, name, since) {
         Ok(teller) => Ok(OpenDesk::new(alloc, sockets, desk, teller, machine)),
         Err(_) => Err(RunFault::NoMemory),
     }

@@ -1,14 +1,15 @@
-//! What the program takes of its machine, as the system tells it.
+//! What the program takes of its machine, and what the machine's clock tells, as the system tells it.
 
+use broker_sockets::{Clocks, RealClocks};
 use door_bounds::{Gauge, PLACE, ProcessMemory};
-use status_figures::Usage;
+use status_figures::{Moments, Usage};
 use status_sockets::Machine;
 use std::alloc::AllocError;
 use std::fs::{self, File};
 use std::io::ErrorKind;
 
 /// The machine that the program runs on. It tells the memory that the program holds, beside what it may hold, and the length of its database at a path
-/// and of the database's log.
+/// and of the database's log, and it reads the system's clock.
 #[derive(Drop)]
 pub(crate) struct RealMachine<'a> {
     rt: &'a HostRuntime,
@@ -53,13 +54,22 @@ fn len_of(rt: &HostRuntime, path: &str) -> Option<u64> {
     }
 }
 
+/// A turn's moment beside what the system's clock tells now, where that can be read.
+fn moments_at(rt: &HostRuntime, turn: u64) -> Option<Moments> {
+    match RealClocks::new(rt).read().system {
+        0 => None,
+        system => Some(Moments { turn, system }),
+    }
+}
+
 impl Machine for RealMachine<'_> {
-    fn usage(&mut self) -> Usage {
+    fn usage(&mut self, at: u64) -> Usage {
         Usage {
             memory: self.memory.held(),
             most_memory: self.most_memory,
             database: len_of(self.rt, self.database),
             log: len_of(self.rt, self.log.as_str()),
+            moments: moments_at(self.rt, at),
         }
     }
 }

@@ -118,7 +118,14 @@ fn place_of<'a>(
     status: Option<StatusAt<'a>>,
     refused: &'a mut Option<Refused>,
 ) -> Result<Option<RealPlace<'a>>, Stop> {
-    let Some(StatusAt { address, hosts }) = status else {
+    let Some(
+        StatusAt {
+            version,
+            address,
+            hosts,
+        },
+    ) = status
+    else {
         return Ok(None);
     };
     let Named {
@@ -136,6 +143,7 @@ fn place_of<'a>(
         sockets: StatusSockets::new(rt, refused),
         machine,
         keys,
+        version,
         name,
         address,
         hosts,

@@ -15,9 +15,11 @@ pub struct Named<'a> {
     pub database: &'a str,
 }
 
-/// Where a node's status is told, and by which hosts it may be asked beside an IP address, `localhost` and its name, with commas between them.
+/// Where a node's status is told, by a program of which version, and by which hosts it may be asked beside an IP address, `localhost` and its name, with
+/// commas between them.
 #[derive(Clone, Copy, Debug)]
 pub struct StatusAt<'a> {
+    pub version: &'a str,
     pub address: &'a str,
     pub hosts: &'a str,
 }

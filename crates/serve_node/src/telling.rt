@@ -3,13 +3,13 @@
 ghost use Rattle.std.specs.Prelude.{ℕ, Option};
 
 use crate::refusal::{tell_held, tell_refusal, tell_stranger};
-use broker_holds::{Origins, Strain, number_of};
+use broker_holds::{Origins, Strain, address_text, number_of};
 use broker_sockets::{Answer, PolledSockets, Readiness, Ready, Sockets, Watched};
 use cli_stops::answer_of;
 use mio::net::{TcpListener, TcpStream};
 use std::alloc::{AllocError, Global};
 use std::io::{self, Write};
-use std::net::{Ipv6Addr, SocketAddr};
+use std::net::SocketAddr;
 use std::rc::Rc;
 
 /// For so many milliseconds after it was told that clients are held back, or that a link was closed, it isn't told again.
@@ -87,12 +87,6 @@ impl<'a, 'b, E: Write> TellingSockets<'a, 'b, E> {
     }
 }
 
-/// An IP address, as it is written; nothing where the system didn't tell it or there is no memory for it.
-fn text_of(alloc: Global, address: Option<u128>) -> Option<String> {
-    let address = Ipv6Addr::from_bits(address?).to_canonical();
-    format!(in alloc; "{address}").ok()
-}
-
 impl<'a, 'b, E: Write> TellingSockets<'a, 'b, E> {
     /// Tells that a link was closed, where one was since that was told last, and not within a minute.
     fn tell_stranger(&mut self, alloc: Global) {
@@ -102,7 +96,7 @@ impl<'a, 'b, E: Write> TellingSockets<'a, 'b, E> {
         }
         self.strangers = strangers;
         self.stranger_again = self.strain.now().saturating_add(MINUTE);
-        let text = text_of(alloc, self.strain.stranger());
+        let text = address_text(alloc, self.strain.stranger());
         let address = match &text {
             Some(text) => text.as_str(),
             None => "an unknown address",

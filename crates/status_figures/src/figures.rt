@@ -58,6 +58,10 @@ pub struct NotAllowed {
 /// What is told of a node.
 #[derive(Drop)]
 pub struct Figures {
+    /// The version of the program.
+    pub version: String,
+    /// The version of the rows that it writes.
+    pub rows: u16,
     pub name: String,
     pub number: u16,
     /// The address that its clients are told.
@@ -112,11 +116,11 @@ impl Figures {
         self.refusal.is_none() && !self.usage.is_short() && self.all_agree()
     }
 
-    /// Whether the node is caught up, and has left out nothing since it started.
+    /// Whether the node is caught up, has left out nothing since it started, and its time isn't more than a second from its machine's.
     pub fn is_well(&self) -> bool
         ensures { result ≡ is_well self.now }
     {
-        self.is_caught_up() && self.left_out.is_whole()
+        self.is_caught_up() && self.left_out.is_whole() && !self.usage.strays()
     }
 
     /// How many peers aren't linked, weren't heard, lack operations, have more of them, or have a full lane.

@@ -5,7 +5,7 @@ use Rattle.status_figures.specs.Figures.{is_caught_up}
 use Rattle.status_pages.specs.Status.{status_text}
 use Rattle.status_texts.specs.Cluster.{cluster_text}
 use Rattle.status_texts.specs.Metrics.{metrics_text}
-use Rattle.status_texts.specs.Page.{page_text}
+use Rattle.status_texts.specs.Whole.{page_text}
 use Rattle.status_texts.specs.Peers.{gate_text}
 use Rattle.status_pages.specs.declared.resource.Resource.{Resource}
 use Rattle.status_pages.specs.declared.resource.Resource.TheVariants.{Page, Cluster, Metrics, Json, Health, CaughtUp}

@@ -10,7 +10,7 @@ use Rattle.status_figures.specs.declared.figures.NotAllowed.{NotAllowed}
 use Rattle.status_figures.specs.declared.traffic.Traffic.{Traffic}
 use Rattle.status_figures.specs.declared.peer.Peer.{Peer}
 use Rattle.status_figures.specs.declared.usage.Usage.{Usage}
-use Rattle.status_figures.specs.Figures.{has_room, is_caught_up, is_equal}
+use Rattle.status_figures.specs.Figures.{ahead, behind, has_room, is_caught_up, is_equal}
 use Rattle.status_pages.specs.Members.{known_text, member, number_member, quoted_text, truth}
 
 -- a text in its quotes
@@ -58,6 +58,18 @@ with_usage usage text =
     ++ next (codes "most_memory_bytes") (known_text usage.most_memory)
     ++ next (codes "database_bytes") (known_text usage.database)
     ++ next (codes "database_log_bytes") (known_text usage.log)
+
+-- how far the time of the node is from its machine's
+unfoldable pub with_time : Usage → List ℕ → List ℕ
+with_time usage text =
+    text
+    ++ next (codes "clock_lag_milliseconds") (known_text (behind usage))
+    ++ next (codes "clock_ahead_milliseconds") (known_text (ahead usage))
+
+-- the version of the program, and that of the rows that it writes
+unfoldable pub with_program : Figures → List ℕ → List ℕ
+with_program figures text =
+    text ++ next (codes "version") (written figures.version) ++ next_number (codes "rows_version") figures.rows
 
 unfoldable pub with_refusal : Figures → List ℕ → List ℕ
 with_refusal figures text = text ++ next (codes "table_refusal") (quoted_text figures.refusal)
@@ -154,7 +166,7 @@ with_peers index (peer ∷ peers) text = with_peers (suc index) peers (with_peer
 abbrev pub status_text : Figures → List ℕ
 status_text figures =
     with_peers 0 figures.peers.items
-    (with_refusals figures (with_traffic figures (with_not_allowed figures.not_allowed (with_left_out figures.left_out (with_refusal figures (with_usage figures.usage (with_counts figures
-    (with_who figures [])))))))
+    (with_refusals figures (with_traffic figures (with_not_allowed figures.not_allowed (with_left_out figures.left_out (with_refusal figures (with_program figures (with_time figures.usage (with_usage figures.usage (with_counts figures
+    (with_who figures [])))))))))
     ++ codes "],\"peers\":[")
     ++ codes "]}\n"

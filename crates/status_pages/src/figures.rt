@@ -1,7 +1,9 @@
 //! The figures of a node in JSON.
 
 ghost use Rattle.std.specs.Prelude.{◌≡◌, ◌++◌, codes, string_bytes, IfOk, OnOk};
-ghost use Rattle.status_pages.specs.Status.{status_text, with_clients, with_counts, with_left_out, with_links, with_node, with_not_allowed, with_counts_not_allowed, with_refusal, with_refusals, with_traffic, with_usage, with_who};
+ghost use Rattle.status_figures.specs.Figures.{ahead, behind};
+ghost use Rattle.status_pages.specs.Members.{known_text};
+ghost use Rattle.status_pages.specs.Status.{status_text, with_clients, with_counts, with_left_out, with_links, with_node, with_not_allowed, with_counts_not_allowed, with_program, with_refusal, with_refusals, with_time, with_traffic, with_usage, with_who};
 
 use crate::codes::push_codes;
 use crate::members::{known_text, push_member, push_number, quoted, quoted_text, truth};
@@ -56,6 +58,39 @@ fn push_usage(alloc: Global, text: &mut String, usage: &Usage) -> Result<(), All
     push_member(text, ",", "most_memory_bytes", &most)?;
     push_member(text, ",", "database_bytes", &database)?;
     push_member(text, ",", "database_log_bytes", &log)
+}
+
+fn behind_text(alloc: Global, usage: &Usage) -> Result<String, AllocError>
+    ensures { IfOk result (λ text. string_bytes text ≡ known_text (behind usage.now)) }
+{
+    known_text(alloc, usage.behind())
+}
+
+fn ahead_text(alloc: Global, usage: &Usage) -> Result<String, AllocError>
+    ensures { IfOk result (λ text. string_bytes text ≡ known_text (ahead usage.now)) }
+{
+    known_text(alloc, usage.ahead())
+}
+
+/// How far the time of the node is from its machine's.
+#[tactic(auto, unfolding(crate::specs::Status::with_time))]
+fn push_time(alloc: Global, text: &mut String, usage: &Usage) -> Result<(), AllocError>
+    ensures { OnOk result (string_bytes text.new ≡ with_time usage.now (string_bytes text.old)) }
+{
+    let behind = behind_text(alloc, usage)?;
+    let ahead = ahead_text(alloc, usage)?;
+    push_member(text, ",", "clock_lag_milliseconds", &behind)?;
+    push_member(text, ",", "clock_ahead_milliseconds", &ahead)
+}
+
+/// The version of the program, and that of the rows that it writes.
+#[tactic(auto, unfolding(crate::specs::Status::with_program))]
+fn push_program(alloc: Global, text: &mut String, figures: &Figures) -> Result<(), AllocError>
+    ensures { OnOk result (string_bytes text.new ≡ with_program figures.now (string_bytes text.old)) }
+{
+    let version = quoted(alloc, &figures.version)?;
+    push_member(text, ",", "version", &version)?;
+    push_number(text, ",", "rows_version", u64::from(figures.rows))
 }
 
 /// Why the table of homes in its file isn't taken.
@@ -165,6 +200,8 @@ pub fn json_of(alloc: Global, figures: &Figures) -> Result<String, AllocError>
     push_who(alloc, &mut text, figures)?;
     push_counts(&mut text, figures)?;
     push_usage(alloc, &mut text, &figures.usage)?;
+    push_time(alloc, &mut text, &figures.usage)?;
+    push_program(alloc, &mut text, figures)?;
     push_refusal(alloc, &mut text, figures)?;
     push_left_out(&mut text, &figures.left_out)?;
     push_not_allowed(&mut text, &figures.not_allowed)?;

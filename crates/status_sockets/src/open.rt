@@ -61,7 +61,7 @@ fn figures_of<H, T: Teller<H>>(alloc: Global, teller: &T, handler: &H, at: u64) 
     }
 }
 
-/// These figures, with what the program takes of its machine now.
+/// These figures, with what the program takes of its machine now, and how its time stands beside the machine's.
 fn shown<H, T: Teller<H>, U: Machine>(
     alloc: Global,
     teller: &T,
@@ -72,7 +72,7 @@ fn shown<H, T: Teller<H>, U: Machine>(
     ensures { IfSome result (IsShown (T.tells teller.now handler.now at)) }
 {
     let mut figures = figures_of(alloc, teller, handler, at)?;
-    figures.usage = machine.usage();
+    figures.usage = machine.usage(at);
     Some(figures)
 }
 

@@ -1,10 +1,11 @@
 -- The cluster, as a node knows it: a page of all its nodes. Each definition `with_..` is a text, and then what it is named for.
-use Rattle.std.specs.Prelude.{◌≡◌, ℕ, ◌/◌, ◌&&◌, Bool, true, List, [], ◌∷◌, ◌++◌, codes, count_by, is_none, length, not, if◌then◌else◌}
+use Rattle.std.specs.Prelude.{◌≡◌, ℕ, ◌/◌, ◌&&◌, Bool, true, false, List, [], ◌∷◌, ◌++◌, codes, count_by, is_none, length, not, if◌then◌else◌}
 use Rattle.std.specs.Fmt.{decimal}
 use Rattle.status_figures.specs.declared.figures.Figures.{Figures}
 use Rattle.status_figures.specs.declared.peer.Peer.{Peer}
-use Rattle.status_figures.specs.Figures.{agrees, is_caught_up, is_short, is_well, is_whole}
+use Rattle.status_figures.specs.Figures.{agrees, is_caught_up, is_short, is_well, is_whole, strays}
 use Rattle.status_texts.specs.Escapes.{escaped}
+use Rattle.status_texts.specs.Machine.{strays_text}
 use Rattle.status_texts.specs.Page.{apart_words, sentence, short_text, untaken_text, verdict_class, with_tail, with_top}
 use Rattle.status_texts.specs.Peers.{class_of, state_text}
 use Rattle.status_texts.specs.Rows.{cell, number_cell, row_start, uptime_text}
@@ -18,21 +19,23 @@ with_head title text = with_top title text ++ codes "<h1>" ++ title ++ codes "</
 unfoldable pub behind_words : ℕ → ℕ → List ℕ
 behind_words apart peers = codes "The cluster is not caught up, as far as this node knows. " ++ apart_words apart peers
 
--- whether the cluster is caught up, as far as the node knows: in red where it isn't, and in green only where the node has left nothing out either
+-- whether the cluster is caught up, as far as the node knows: in red where it isn't, and in green only where the node has left nothing out and its time is near too
 unfoldable pub verdict : Figures → List ℕ
 verdict figures =
     if is_caught_up figures then sentence (verdict_class (is_well figures)) (codes "The cluster is caught up, as far as this node knows: each node is linked, was heard, and has what this node has.")
     else sentence (codes "apart") (behind_words (count_by (λ peer. not (agrees peer)) figures.peers.items) (length figures.peers.items))
 
--- that line is green only where the node is caught up and has left nothing out
+-- that line is green only where the node is caught up, has left nothing out, and its time isn't far from its machine's
 abbrev pub GreenIsCaughtUp : Type 0
-GreenIsCaughtUp = (figures : Figures) (words : List ℕ) → verdict figures ≡ sentence (codes "agrees") words → (is_caught_up figures ≡ true) × (is_whole figures.left_out ≡ true)
+GreenIsCaughtUp =
+    (figures : Figures) (words : List ℕ) → verdict figures ≡ sentence (codes "agrees") words
+    → (is_caught_up figures ≡ true) × (is_whole figures.left_out ≡ true) × (strays figures.usage ≡ false)
 
 -- ---- the node itself
 
--- the table in its file isn't refused, memory isn't short, and nothing was left out
+-- the table in its file isn't refused, memory isn't short, its time is near, and nothing was left out
 abbrev pub is_sound : Figures → Bool
-is_sound figures = is_none figures.refusal && (not (is_short figures.usage) && is_whole figures.left_out)
+is_sound figures = is_none figures.refusal && (not (is_short figures.usage) && (not (strays figures.usage) && is_whole figures.left_out))
 
 abbrev pub own_class : Figures → List ℕ
 own_class figures = if is_sound figures then codes "agrees" else codes "apart"
@@ -92,7 +95,7 @@ with_nodes (peer ∷ peers) text = with_nodes peers (with_node peer text)
 unfoldable pub nodes_head : List ℕ
 nodes_head = codes "<table>\n<tr><th>Name</th><th>Address</th><th>Bridge</th><th>Link</th><th>State</th><th>Messages that wait</th></tr>\n"
 
--- the head, whether the cluster is caught up, whether the file's table is taken and whether memory is short, then the node itself and the other nodes
+-- the head, whether the cluster is caught up, whether the file's table is taken, whether memory is short and whether the node's time strays, then the node itself and the other nodes
 abbrev pub cluster_text : Figures → List ℕ
 cluster_text figures =
     with_tail (with_nodes figures.peers.items (with_own figures
@@ -100,5 +103,6 @@ cluster_text figures =
     ++ verdict figures
     ++ untaken_text figures.refusal
     ++ short_text (is_short figures.usage)
+    ++ strays_text (strays figures.usage)
     ++ nodes_head))
     ++ codes "</table>\n")

@@ -3,7 +3,9 @@ pub mod Codes
 pub mod Elsewhere
 pub mod Escapes
 pub mod Lines
+pub mod Machine
 pub mod Metrics
 pub mod Page
 pub mod Peers
 pub mod Rows
+pub mod Whole

@@ -8,7 +8,7 @@ use Rattle.status_figures.specs.declared.figures.NotAllowed.{NotAllowed}
 use Rattle.status_figures.specs.declared.traffic.Traffic.{Traffic}
 use Rattle.status_figures.specs.declared.peer.Peer.{Peer}
 use Rattle.status_figures.specs.declared.usage.Usage.{Usage}
-use Rattle.status_figures.specs.Figures.{has_room, is_caught_up}
+use Rattle.status_figures.specs.Figures.{ahead, behind, has_room, is_caught_up}
 use Rattle.status_texts.specs.Codes.{with_code_lines}
 use Rattle.status_texts.specs.Escapes.{label}
 use Rattle.status_texts.specs.Lines.{help_line, kind_line, peer_line, reason_line, with_counter, with_gauge}
@@ -28,6 +28,16 @@ with_info name number text =
     ++ kind_line (codes "mqtt_node_info") (codes "gauge")
     ++ info_name name
     ++ info_number number
+
+unfoldable pub build_line : List ℕ → ℕ → List ℕ
+build_line version rows = codes "mqtt_build_info{version=\"" ++ version ++ codes "\",rows=\"" ++ decimal rows ++ codes "\"} 1\n"
+
+unfoldable pub with_build : List ℕ → ℕ → List ℕ → List ℕ
+with_build version rows text =
+    text
+    ++ help_line (codes "mqtt_build_info") (codes "The version of the program, and that of its rows.")
+    ++ kind_line (codes "mqtt_build_info") (codes "gauge")
+    ++ build_line version rows
 
 unfoldable pub with_node : Figures → List ℕ → List ℕ
 with_node figures text =
@@ -66,6 +76,17 @@ thousandths_line name n =
 -- a metric of one time, in milliseconds
 unfoldable pub with_seconds : List ℕ → List ℕ → ℕ → List ℕ → List ℕ
 with_seconds name help n text = (text ++ help_line name help ++ kind_line name (codes "gauge")) ++ thousandths_line name n
+
+abbrev pub with_known_seconds : List ℕ → List ℕ → Option ℕ → List ℕ → List ℕ
+with_known_seconds name help None text = text
+with_known_seconds name help (Some n) text = with_seconds name help n text
+
+-- how far the time of the node is from its machine's
+unfoldable pub with_time : Usage → List ℕ → List ℕ
+with_time usage text =
+    with_known_seconds (codes "mqtt_clock_ahead_seconds") (codes "Seconds that the time of the node is ahead of the system's clock.") (ahead usage)
+    (with_known_seconds (codes "mqtt_clock_lag_seconds") (codes "Seconds that the time of the node is behind the system's clock.") (behind usage)
+    text)
 
 unfoldable pub with_turns : ℕ → List ℕ → List ℕ
 with_turns longest text = with_seconds (codes "mqtt_longest_turn_seconds") (codes "The longest turn of the last ten seconds.") longest text
@@ -171,7 +192,7 @@ with_peer_links figures text =
 -- what the node holds, and what went through it
 unfoldable pub with_counts : Figures → List ℕ → List ℕ
 with_counts figures text =
-    with_links figures.total (with_clients figures.total (with_turns figures.longest_turn (with_usage figures.usage (with_held figures (with_node figures text)))))
+    with_links figures.total (with_clients figures.total (with_turns figures.longest_turn (with_time figures.usage (with_usage figures.usage (with_held figures (with_node figures text))))))
 
 unfoldable pub with_refused : Figures → List ℕ → List ℕ
 with_refused figures text =
@@ -185,4 +206,4 @@ with_losses left_out text = with_tables left_out (with_frames_dropped left_out (
 abbrev pub metrics_text : Figures → List ℕ
 metrics_text figures =
     with_cluster figures (with_peer_links figures (with_untaken figures (with_losses figures.left_out (with_not_allowed figures.not_allowed (with_refused figures (with_counts figures
-    (with_info (label figures.name.bytes.items) figures.number [])))))))
+    (with_build (label figures.version.bytes.items) figures.rows (with_info (label figures.name.bytes.items) figures.number []))))))))

@@ -152,18 +152,3 @@ with_tail text = text ++ codes "</main>\n<script>" ++ SCRIPT.now ++ codes "</scr
 -- what stands before the lines of the peers: what each column tells
 unfoldable pub peers_head : List ℕ
 peers_head = codes "<h2>Peers</h2>\n<table>\n<tr><th>Name</th><th>Bridge</th><th>Link</th><th>State</th><th>Messages that wait</th></tr>\n"
-
--- the head, whether the cluster agrees, whether anything was left out, whether the file's table is taken and whether memory is short, then the node itself, its
--- peers, what went through, who was refused, what was not allowed, and what was left out
-abbrev pub page_text : Figures → List ℕ
-page_text figures =
-    with_tail (with_frames_dropped figures.left_out (with_dropped figures.left_out (with_links_refused figures.not_allowed.links (with_not_allowed figures.not_allowed (with_codes figures (with_links figures.recent (with_clients figures.recent
-    (with_peers figures.peers.items
-    (with_turns figures.longest_turn (with_files figures.usage (with_memory figures.usage (with_held figures (with_node figures
-    (with_head (escaped figures.name.bytes.items) []
-    ++ verdict_text (is_well figures) (count_by (λ peer. not (agrees peer)) figures.peers.items) (length figures.peers.items)
-    ++ loss_text (is_whole figures.left_out)
-    ++ untaken_text figures.refusal
-    ++ short_text (is_short figures.usage))))))
-    ++ peers_head)
-    ++ codes "</table>\n"))))))))

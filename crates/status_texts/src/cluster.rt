@@ -4,6 +4,7 @@ ghost use Rattle.std.specs.Prelude.{◌≡◌, ◌++◌, string_bytes, IfOk, OnO
 ghost use Rattle.status_texts.specs.Cluster.{behind_words, cluster_text, is_sound, lost_words, nodes_head, own_class, own_name, own_text, own_words, since_text, title, verdict, who_words, with_head, with_node, with_nodes, with_own};
 
 use crate::escape::escaped;
+use crate::machine::push_strays;
 use crate::page::{
     push_apart_words, push_sentence, push_short, push_tail, push_top, push_untaken, verdict_class,
 };
@@ -47,7 +48,7 @@ fn behind_words(alloc: Global, apart: usize, peers: usize) -> Result<String, All
     Ok(text)
 }
 
-/// Whether the cluster is caught up, as far as the node knows: in red where it isn't, and in green only where the node has left nothing out either.
+/// Whether the cluster is caught up, as far as the node knows: in red where it isn't, and in green only where the node has left nothing out and its time is near too.
 #[tactic(auto, unfolding(crate::specs::Cluster::verdict))]
 fn push_verdict(alloc: Global, text: &mut String, figures: &Figures) -> Result<(), AllocError>
     ensures { OnOk result (string_bytes text.new ≡ string_bytes text.old ++ verdict figures.now) }
@@ -65,7 +66,10 @@ fn push_verdict(alloc: Global, text: &mut String, figures: &Figures) -> Result<(
 fn is_sound(figures: &Figures) -> bool
     ensures { result ≡ is_sound figures.now }
 {
-    figures.refusal.is_none() && !figures.usage.is_short() && figures.left_out.is_whole()
+    figures.refusal.is_none()
+        && !figures.usage.is_short()
+        && !figures.usage.strays()
+        && figures.left_out.is_whole()
 }
 
 fn own_class(figures: &Figures) -> &'static str
@@ -200,6 +204,7 @@ pub fn cluster_of(alloc: Global, figures: &Figures) -> Result<String, AllocError
     push_verdict(alloc, &mut text, figures)?;
     push_untaken(alloc, &mut text, &figures.refusal)?;
     push_short(&mut text, figures.usage.is_short())?;
+    push_strays(&mut text, figures.usage.strays())?;
     push_nodes_head(&mut text)?;
     push_own(alloc, &mut text, figures)?;
     push_nodes(alloc, &mut text, &figures.peers)?;

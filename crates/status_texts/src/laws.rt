@@ -14,7 +14,7 @@ pub fn labels_stay_in_their_quotes()
     ensures { (name : List ℕ) → IsWithinQuotes (label name) }
 {}
 
-/// The line on top of a page of the cluster is green only where its node is caught up and has left nothing out.
+/// The line on top of a page of the cluster is green only where its node is caught up, has left nothing out, and its time isn't far from its machine's.
 pub fn green_cluster_is_caught_up()
     ensures { GreenIsCaughtUp }
 {}

@@ -6,6 +6,7 @@ mod codes;
 mod escape;
 mod laws;
 mod lines;
+mod machine;
 mod metrics;
 mod page;
 mod peers;

@@ -1,7 +1,7 @@
 //! The metrics of a node, in Prometheus' text format.
 
 ghost use Rattle.std.specs.Prelude.{◌≡◌, ◌++◌, ◌/◌, ◌%◌, string_bytes, IfOk, OnOk};
-ghost use Rattle.status_texts.specs.Metrics.{as_number, info_name, info_number, metrics_text, number_of, sample, thousandths_line, with_clients, with_cluster, with_codes, with_counts, with_dropped, with_frames_dropped, with_held, with_info, with_known, with_links, with_losses, with_node, with_not_allowed, with_peer_links, with_peer_metric, with_refused, with_samples, with_seconds, with_tables, with_turns, with_untaken, with_usage};
+ghost use Rattle.status_texts.specs.Metrics.{as_number, build_line, info_name, info_number, metrics_text, number_of, sample, thousandths_line, with_build, with_clients, with_cluster, with_codes, with_counts, with_dropped, with_frames_dropped, with_held, with_info, with_known, with_known_seconds, with_links, with_losses, with_node, with_not_allowed, with_peer_links, with_peer_metric, with_refused, with_samples, with_seconds, with_tables, with_time, with_turns, with_untaken, with_usage};
 
 use crate::codes::push_code_lines;
 use crate::escape::label;
@@ -11,6 +11,9 @@ use std::alloc::{AllocError, Global};
 
 /// The name of the metric of the node itself.
 const INFO: &str = "mqtt_node_info";
+
+/// That of the program.
+const BUILD: &str = "mqtt_build_info";
 
 /// That of the messages that were left out.
 const DROPPED: &str = "mqtt_messages_dropped_total";
@@ -58,6 +61,31 @@ fn push_info(text: &mut String, name: &str, number: u16) -> Result<(), AllocErro
     push_family(text, INFO, "gauge", "The name of the node, and its number.")?;
     push_info_name(text, name)?;
     push_info_number(text, number)
+}
+
+/// The version of the program, as it stands in a label, and that of its rows.
+#[tactic(auto, unfolding(crate::specs::Metrics::build_line))]
+fn push_build_line(text: &mut String, version: &str, rows: u16) -> Result<(), AllocError>
+    ensures { OnOk result (string_bytes text.new ≡ string_bytes text.old ++ build_line version.now rows) }
+{
+    write!(
+        text,
+        "mqtt_build_info{{version=\"{version}\",rows=\"{rows}\"}} 1\n"
+    )
+}
+
+/// Both, as a metric.
+#[tactic(auto, unfolding(crate::specs::Metrics::with_build))]
+fn push_build(text: &mut String, version: &str, rows: u16) -> Result<(), AllocError>
+    ensures { OnOk result (string_bytes text.new ≡ with_build version.now rows (string_bytes text.old)) }
+{
+    push_family(
+        text,
+        BUILD,
+        "gauge",
+        "The version of the program, and that of its rows.",
+    )?;
+    push_build_line(text, version, rows)
 }
 
 /// What the node holds.
@@ -165,6 +193,32 @@ fn push_seconds(text: &mut String, name: &str, help: &str, number: u64) -> Resul
 {
     push_family(text, name, "gauge", help)?;
     push_thousandths(text, name, number)
+}
+
+/// A metric of one time, in milliseconds, that has no value where this isn't known.
+fn push_known_seconds(
+    text: &mut String,
+    name: &str,
+    help: &str,
+    number: Option<u64>,
+) -> Result<(), AllocError>
+    ensures { OnOk result (string_bytes text.new ≡ with_known_seconds name.now help.now number (string_bytes text.old)) }
+{
+    let Some(number) = number else {
+        return Ok(());
+    };
+    push_seconds(text, name, help, number)
+}
+
+/// How far the time of the node is from its machine's.
+#[tactic(auto, unfolding(crate::specs::Metrics::with_time))]
+fn push_time(text: &mut String, usage: &Usage) -> Result<(), AllocError>
+    ensures { OnOk result (string_bytes text.new ≡ with_time usage.now (string_bytes text.old)) }
+{
+    let help = "Seconds that the time of the node is behind the system's clock.";
+    push_known_seconds(text, "mqtt_clock_lag_seconds", help, usage.behind())?;
+    let help = "Seconds that the time of the node is ahead of the system's clock.";
+    push_known_seconds(text, "mqtt_clock_ahead_seconds", help, usage.ahead())
 }
 
 /// How long its turns take.
@@ -461,6 +515,7 @@ fn push_counts(text: &mut String, figures: &Figures) -> Result<(), AllocError>
     push_node(text, figures)?;
     push_held(text, figures)?;
     push_usage(text, &figures.usage)?;
+    push_time(text, &figures.usage)?;
     push_turns(text, figures.longest_turn)?;
     push_clients(text, &figures.total)?;
     push_links(text, &figures.total)
@@ -494,8 +549,10 @@ pub fn metrics_of(alloc: Global, figures: &Figures) -> Result<String, AllocError
     ensures { IfOk result (λ text. string_bytes text ≡ metrics_text figures.now) }
 {
     let name = label(alloc, &figures.name)?;
+    let version = label(alloc, &figures.version)?;
     let mut text = String::new(alloc);
     push_info(&mut text, &name, figures.number)?;
+    push_build(&mut text, &version, figures.rows)?;
     push_counts(&mut text, figures)?;
     push_refused(alloc, &mut text, figures)?;
     push_not_allowed(&mut text, &figures.not_allowed)?;

@@ -1,10 +1,12 @@
 //! The page of a node: one document that asks for nothing but itself, and is read without its script.
 
 ghost use Rattle.std.specs.Prelude.{◌≡◌, ◌++◌, string_bytes, IfOk, OnOk};
-ghost use Rattle.status_texts.specs.Page.{apart_words, loss_text, page_text, peers_head, sentence, short_text, untaken_text, untaken_words, verdict_class, verdict_text, with_clients, with_codes, with_dropped, with_files, with_frames_dropped, with_head, with_held, with_links, with_links_refused, with_memory, with_node, with_not_allowed, with_tail, with_top, with_turns};
+ghost use Rattle.status_texts.specs.Page.{apart_words, loss_text, peers_head, sentence, short_text, untaken_text, untaken_words, verdict_class, verdict_text, with_clients, with_codes, with_dropped, with_files, with_frames_dropped, with_head, with_held, with_links, with_links_refused, with_memory, with_node, with_not_allowed, with_tail, with_top, with_turns};
+ghost use Rattle.status_texts.specs.Whole.{page_text};
 
 use crate::codes::push_code_rows;
 use crate::escape::escaped;
+use crate::machine::{push_program, push_strays, push_time};
 use crate::peers::push_peers;
 use crate::rows::{push_loss, push_number, push_row, push_state, size_text, uptime_text};
 use status_figures::{Figures, LeftOut, NotAllowed, Traffic, Usage};
@@ -347,10 +349,13 @@ pub fn page_of(alloc: Global, figures: &Figures) -> Result<String, AllocError>
     push_whole(&mut text, figures.left_out.is_whole())?;
     push_untaken(alloc, &mut text, &figures.refusal)?;
     push_short(&mut text, figures.usage.is_short())?;
+    push_strays(&mut text, figures.usage.strays())?;
     push_node(alloc, &mut text, figures)?;
     push_held(&mut text, figures)?;
     push_memory(alloc, &mut text, &figures.usage)?;
     push_files(alloc, &mut text, &figures.usage)?;
+    push_program(alloc, &mut text, figures)?;
+    push_time(alloc, &mut text, &figures.usage)?;
     push_turns(&mut text, figures.longest_turn)?;
     push_peers_head(&mut text)?;
     push_peers(alloc, &mut text, &figures.peers)?;

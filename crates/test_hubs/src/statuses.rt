@@ -56,6 +56,7 @@ fn tells(
         },
         machine: NoMachine,
         keys,
+        version: "0.1.0",
         name: "n1",
         address: "127.0.0.1:8080",
         hosts: "",

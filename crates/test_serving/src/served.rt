@@ -22,7 +22,11 @@ pub fn for_one_turn(status: Option<&str>) -> Service<'_> {
         limits: Limits::none(),
         mqtt3: false,
         log: false,
-        status: status.map(|address| StatusAt { address, hosts: "" }),
+        status: status.map(|address| StatusAt {
+            version: "0.1.0",
+            address,
+            hosts: "",
+        }),
         turns: Some(1),
     }
 }

@@ -1,6 +1,6 @@
 //! Links of other nodes from addresses that a table of homes has, and from elsewhere.
 
-use broker_holds::{GuardedLinks, Strain, number_of};
+use broker_holds::{GuardedLinks, Strain, address_text, number_of};
 use broker_sockets::{Readiness, Watched};
 use std::alloc::Global;
 use std::net::IpAddr;
@@ -124,5 +124,22 @@ fn what_the_network_can_not_watch_is_no_stranger(rt: HostRuntime) -> Result<(), 
     let (strain, shared) = strains(&rt, alloc);
     let mut sockets = GuardedLinks::new(network, None, shared);
     assert!(rt; !sockets.watch(&mut stream, Watched::Link(0)) && strain.refused() == 0);
+    Ok(())
+}
+
+#[test]
+fn where_a_client_comes_from_is_told(rt: HostRuntime) -> Result<(), Fail> {
+    let alloc = rt.alloc();
+    for from in [Some("10.0.0.7"), Some("fd00::7"), None] {
+        let mut network = FakeSockets::new(alloc);
+        network.origin = from.map(|text| number(&rt, text));
+        let mut stream = network.client(2, b"", 1, 1).expect(&rt, "memory");
+        let (strain, shared) = strains(&rt, alloc);
+        let mut sockets = GuardedLinks::new(network, Some(Vec::new(alloc)), shared);
+        assert!(rt; sockets.watch(&mut stream, Watched::Client(3)));
+        let told = address_text(alloc, strain.client());
+        assert!(rt; told.as_ref().map(|text| text.as_str()) == from);
+        drop((stream, sockets));
+    }
     Ok(())
 }

@@ -2,7 +2,7 @@
 
 use crate::figures::{equal_peer, figures, well};
 use crate::turns::{desk, make};
-use status_figures::Figures;
+use status_figures::{Figures, Moments};
 use std::alloc::Global;
 use std::hash::RandomState;
 use std::process::Abort;
@@ -222,6 +222,8 @@ fn what_misleads_is_told(rt: HostRuntime) {
         "<p class=\"apart\">The program holds nearly all the memory that it may (below): it may take nothing new.</p>",
         "<tr class=\"apart\"><th>Memory of the program</th><td>123.4 MB</td></tr>\n<tr><th>Memory that it may hold</th><td>125.0 MB</td></tr>\n",
         "<tr><th>Database</th><td>not known</td></tr>\n<tr><th>Log of the database</th><td>0.0 MB</td></tr>\n",
+        "<p class=\"apart\">The time of this node is more than a second from that of its machine.</p>",
+        "<tr><th>Version of the program</th><td>1.2.3</td></tr>\n<tr><th>Version of its rows</th><td>4</td></tr>\n<tr class=\"apart\"><th>Time of the node</th><td>1.234 s behind the system's clock</td></tr>\n",
         "<tr class=\"apart\"><th>Copies for a full queue</th><td>21</td></tr>",
         "<tr><th>Refused: Not authorized (0x87)</th><td>17</td></tr>",
         "<tr><th>Ended: Keep Alive timeout (0x8D)</th><td>18</td></tr>",
@@ -244,6 +246,9 @@ fn what_misleads_is_told(rt: HostRuntime) {
         "\nmqtt_memory_bytes 123456789\n# HELP mqtt_most_memory_bytes ",
         "\nmqtt_most_memory_bytes 125000000\n# HELP mqtt_database_log_bytes ",
         "\nmqtt_table_file_refused 1\n",
+        "\nmqtt_build_info{version=\"1.2.3\",rows=\"4\"} 1\n",
+        "\nmqtt_clock_lag_seconds 1.234\n",
+        "\nmqtt_clock_ahead_seconds 0.000\n",
         "\nmqtt_cluster_peer_lane_full{peer=\"n1\"} 0\n",
         "\nmqtt_tables_refused_total 27\n",
         "\nmqtt_publishes_refused_total 51\n",
@@ -261,7 +266,7 @@ fn what_misleads_is_told(rt: HostRuntime) {
         b"GET /status.json HTTP/1.1\r\nhost: n0\r\n\r\n",
     );
     let part =
-        ",\"memory_bytes\":123456789,\"most_memory_bytes\":125000000,\"database_bytes\":null,\"database_log_bytes\":0,\"table_refusal\":\"line <4>\",";
+        ",\"memory_bytes\":123456789,\"most_memory_bytes\":125000000,\"database_bytes\":null,\"database_log_bytes\":0,\"clock_lag_milliseconds\":1234,\"clock_ahead_milliseconds\":0,\"version\":\"1.2.3\",\"rows_version\":4,\"table_refusal\":\"line <4>\",";
     assert!(rt; contains(&json, part.as_bytes()));
     let part =
         ",\"tables_refused\":27},\"not_allowed\":{\"publishes\":51,\"filters\":52,\"messages\":53,\"links\":54},\"since_start\":{";
@@ -279,6 +284,7 @@ fn the_cluster_is_shown(rt: HostRuntime) {
         "<title>The cluster, as n0 knows it</title>",
         "<p class=\"apart\">The cluster is not caught up, as far as this node knows. Apart: 1 of 2 peers (not linked, not heard, with other operations, or with a full lane).</p>",
         "<p class=\"apart\">The table of homes in the file of this node is not taken: line &lt;4&gt;.</p>",
+        "<p class=\"apart\">The time of this node is more than a second from that of its machine.</p>",
         "<tr class=\"apart\"><td><a href=\"/\">n0</a></td><td>127.0.0.1:1883</td><td>127.0.0.1:2883</td><td>this node</td><td>up for 1 d 2 h 3 min 4 s, table version 3, clients: 11, sessions: 12, has left something out</td><td></td></tr>\n",
         "<tr class=\"agrees\"><td>n1</td><td>127.0.0.1:1884</td><td>127.0.0.1:2884</td><td>linked for 0 d 0 h 1 min 5 s</td><td>equal</td><td>0</td></tr>\n",
         "<tr class=\"apart\"><td>&lt;b&gt;&amp;&quot;n2\\</td><td>127.0.0.1:1885</td><td>127.0.0.1:2885</td><td>linked for 0 d 2 h 7 min 34 s</td><td>lacking operations: 5, more than here: 0</td><td>7</td></tr>\n",
@@ -346,4 +352,43 @@ fn what_lacks_holds_the_gate(rt: HostRuntime) {
     told.refusal = Some(String::new(alloc));
     assert!(rt; !told.is_caught_up());
     drop(told);
+}
+
+#[test]
+fn another_time_is_told(rt: HostRuntime) {
+    let alloc = rt.alloc();
+    let keys = RandomState::new(&rt).expect(&rt, "keys");
+    for (turn, system, is_near, words) in [
+        (7_000, 8_000, true, "1.000 s behind the system's clock"),
+        (7_000, 8_001, false, "1.001 s behind the system's clock"),
+        (8_000, 7_000, true, "1.000 s ahead of the system's clock"),
+        (8_001, 7_000, false, "1.001 s ahead of the system's clock"),
+        (8_000, 8_000, true, "0.000 s behind the system's clock"),
+    ] {
+        let mut told = well(&rt, alloc);
+        told.usage.moments = Some(Moments { turn, system });
+        assert_eq!(rt; told.is_well(), is_near);
+        assert!(rt; told.is_caught_up());
+        let page = answer_by(
+            &rt,
+            alloc,
+            keys,
+            &told,
+            b"GET / HTTP/1.1\r\nhost: n0\r\n\r\n",
+        );
+        let class = if is_near { "none" } else { "apart" };
+        let row = format!(in alloc;
+            "<tr class=\"{class}\"><th>Time of the node</th><td>{words}</td></tr>\n"
+        ).expect(&rt, "memory");
+        assert!(rt; contains(&page, row.as_bytes()));
+        drop((told, page, row));
+    }
+    let page = answer_by(
+        &rt,
+        alloc,
+        keys,
+        &well(&rt, alloc),
+        b"GET / HTTP/1.1\r\nhost: n0\r\n\r\n",
+    );
+    assert!(rt; contains(&page, b"<th>Time of the node</th><td>not known</td>"));
 }

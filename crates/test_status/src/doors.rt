@@ -2,10 +2,16 @@
 
 use crate::paper::Paper;
 use crate::porter::Porter;
-use broker_sockets::{BridgeHandler, Event, EventKind, Handler, PeerEvent, PeerEventKind};
+use broker_holds::{GuardedLinks, Strain, number_of};
+use broker_sockets::{
+    BridgeHandler, Event, EventKind, Handler, PeerEvent, PeerEventKind, Readiness, Watched,
+};
 use door_log::{Logged, Loss};
 use std::alloc::Global;
+use std::net::IpAddr;
 use std::process::Abort;
+use std::rc::Rc;
+use trial_fakes::FakeSockets;
 
 /// A CONNECT of the client `a`, and of one whose identifier has a space, a newline and a backslash, and a byte beyond ASCII.
 const PLAIN: [u8; 16] = [
@@ -88,6 +94,44 @@ fn clients_are_refused_named_and_lost(rt: HostRuntime) {
         9 client accepted: auto-0-1\n\
         10 client closed unanswered\n\
         12 client gone, lost: auto-0-1\n";
+    settle(&rt, &mut door);
+    drop(door);
+    assert!(rt; paper.text.as_slice() == expected.as_bytes());
+    drop(paper);
+}
+
+/// What node and sockets tell each other, where the last client came from this address.
+fn strain_from(rt: &impl Abort, alloc: Global, from: &str) -> Rc<Strain> {
+    let address: IpAddr = from.parse().expect(rt, "an address");
+    let mut network = FakeSockets::new(alloc);
+    network.origin = Some(number_of(address));
+    let mut stream = network.client(1, b"", 1, 1).expect(rt, "memory");
+    let strain = Strain::new(alloc, 2).expect(rt, "memory");
+    let strain = Rc::new(alloc, strain).expect(rt, "memory");
+    let shared = strain.clone().expect(rt, "memory");
+    let mut sockets = GuardedLinks::new(network, None, shared);
+    assert!(rt; sockets.watch(&mut stream, Watched::Client(0)));
+    drop((stream, sockets));
+    strain
+}
+
+#[test]
+fn addresses_of_clients_are_told(rt: HostRuntime) {
+    let alloc = rt.alloc();
+    let mut paper = Paper::new(alloc, false);
+    let strain = strain_from(&rt, alloc, "10.0.0.7");
+    let mut door = Logged::with_origins(alloc, Some(&mut paper), Some(strain), Porter::new(alloc));
+    for connection in 1..5 {
+        open(&rt, &mut door, 1, connection);
+    }
+    come(&rt, alloc, &mut door, (2, 1), &PLAIN);
+    come(&rt, alloc, &mut door, (3, 2), &PLAIN);
+    come(&rt, alloc, &mut door, (4, 4), &PLAIN);
+    tell(&rt, &mut door, 5, EventKind::Closed { connection: 1 });
+    let expected: &str = "2 10.0.0.7 client accepted: a\n\
+        3 10.0.0.7 client refused 0x87 (Not authorized): a\n\
+        4 10.0.0.7 client closed unanswered\n\
+        5 10.0.0.7 client gone, lost: a\n";
     settle(&rt, &mut door);
     drop(door);
     assert!(rt; paper.text.as_slice() == expected.as_bytes());

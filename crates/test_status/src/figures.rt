@@ -1,6 +1,6 @@
 //! The figures that are told.
 
-use status_figures::{CodeCount, Figures, LeftOut, NotAllowed, Peer, Traffic, Usage};
+use status_figures::{CodeCount, Figures, LeftOut, Moments, NotAllowed, Peer, Traffic, Usage};
 use std::alloc::Global;
 use std::process::Abort;
 
@@ -73,6 +73,8 @@ pub(crate) fn figures(rt: &impl Abort, alloc: Global, lacking: u64) -> Figures {
         .push(lacking_peer(rt, alloc, lacking))
         .expect(rt, "memory");
     Figures {
+        version: text(rt, alloc, "1.2.3"),
+        rows: 4,
         name: text(rt, alloc, "n0"),
         number: 0,
         address: text(rt, alloc, "127.0.0.1:1883"),
@@ -91,6 +93,10 @@ pub(crate) fn figures(rt: &impl Abort, alloc: Global, lacking: u64) -> Figures {
             most_memory: Some(125_000_000),
             database: None,
             log: Some(0),
+            moments: Some(Moments {
+                turn: 1_700_000_000_000,
+                system: 1_700_000_001_234,
+            }),
         },
         refused: given(rt, alloc, 0x87, 17),
         ended: given(rt, alloc, 0x8D, 18),

@@ -20,6 +20,8 @@ returns-clause-figures c =
     let store : c.store-store.result.now ≡ h.store = held_by c.args.node.now.up (λ (k : HeldView). c.store-store.result.now ≡ k.store) h up c.store-store.ensures in
     let counts : c.counts.result ≡ h.counts = held_by c.args.node.now.up (λ (k : HeldView). c.counts.result ≡ k.counts) h up c.counts.ensures in
     record {
+      version = c.in_ok-version.ensures.ok;
+      rows = c.rows_version.ensures;
       name = c.in_ok-name.ensures.ok;
       number = c.id.ensures;
       address = c.in_ok-address.ensures;
