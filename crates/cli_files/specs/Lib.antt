@@ -1,3 +1,4 @@
+pub mod Misfits
 pub mod Flaws
 pub mod Judging
 pub mod Laws

@@ -5,6 +5,7 @@ ghost use Rattle.toml.specs.Errors.{IsMemory, IsWithin};
 ghost use Rattle.home_table.specs.Table.{reading};
 ghost use Rattle.cli_files.specs.Flaws.{IsFlaw, IsNodeFlaw, IsTextFlaw, IsLineOf, line_at};
 
+use crate::misfit::misfit_in;
 use cli_stops::Found;
 use home_table::{HomeTable, TableFault};
 use std::alloc::Global;
@@ -36,7 +37,7 @@ fn text_flaw(alloc: Global, text: &str) -> Found
     ensures { IsTextFlaw text.now result }
 {
     match toml::table_from_str(alloc, text) {
-        Ok(_) => Found::NotTable,
+        Ok(document) => misfit_in(alloc, &document),
         Err(error) => match line_of(text, &error) {
             Some(line) => Found::NotToml(line),
             None => Found::NoMemory,

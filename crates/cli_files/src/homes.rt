@@ -21,7 +21,7 @@ pub struct Home {
 }
 
 /// The string at a key.
-fn string_at<'a>(row: &'a Table, key: &str) -> Option<&'a str>
+pub(crate) fn string_at<'a>(row: &'a Table, key: &str) -> Option<&'a str>
     ensures { option_map (λ text. text.now) result ≡ option_and_then as_str (get_member key.now (table_view row.now)) }
 {
     match row.get(key) {
@@ -71,7 +71,7 @@ fn read_homes(alloc: Global, homes: &HomeTable, values: &[Value]) -> Result<Vec<
 }
 
 /// The values of the array at a key: none where the key is missing.
-fn values_at<'a>(document: &'a Table, key: &str) -> Option<&'a [Value]>
+pub(crate) fn values_at<'a>(document: &'a Table, key: &str) -> Option<&'a [Value]>
     ensures { option_map (λ values. map view values.now) result ≡ items_at key.now (table_view document.now) }
 {
     match document.get(key) {

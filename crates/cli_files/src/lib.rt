@@ -11,6 +11,7 @@ mod homes;
 mod judging;
 mod laws;
 mod looks;
+mod misfit;
 mod password;
 mod refusal;
 mod users;

@@ -4,7 +4,9 @@ use Rattle.std.specs.Fmt.{decimal}
 use Rattle.cli_stops.specs.Stops.{stop_text}
 use Rattle.cli_stops.specs.declared.cause.Cause.{Cause}
 use Rattle.cli_stops.specs.declared.cause.Found.{Found}
-use Rattle.cli_stops.specs.declared.cause.Found.TheVariants.{Answered, TooLong, NotText, NotToml, NotTable, NoNodes, TwiceNamed, NoHome, NotNamed, NoAddress, Unmade, NotPlain, Locked, NoDatabase, Foreign, NoRows, NoMark, OtherVersion, OtherNode, Unsound, OlderTable, Failed, NoMemory}
+use Rattle.cli_stops.specs.declared.cause.Found.TheVariants.{Answered, TooLong, NotText, NotToml, NotTable, OddKey, Lacks, NoNodes, TwiceNamed, NoHome, NotNamed, NoAddress, Unmade, NotPlain, Locked, NoDatabase, Foreign, NoRows, NoMark, OtherVersion, OtherNode, Unsound, OlderTable, Failed, NoMemory}
+use Rattle.cli_stops.specs.declared.cause.TablePart.{TablePart}
+use Rattle.cli_stops.specs.declared.cause.TablePart.TheVariants.{Front, Node, Home}
 use Rattle.cli_stops.specs.declared.cause.Tried.{Tried}
 use Rattle.cli_stops.specs.declared.cause.Tried.TheVariants.{Reading, Opening, Keeping, Waiting, Finding, Printing}
 use Rattle.cli_stops.specs.declared.ending.Ending.{Ending}
@@ -18,12 +20,19 @@ tried_text (Waiting address) = codes "waiting at " ++ address.bytes.items
 tried_text (Finding address) = codes "the bridge " ++ address.bytes.items ++ codes " of another node"
 tried_text Printing = codes "printing a line"
 
+abbrev pub part_text : TablePart → List ℕ
+part_text Front = codes "the front"
+part_text (Node number) = codes "[[node]] number " ++ decimal number
+part_text (Home number) = codes "[[home]] number " ++ decimal number
+
 abbrev pub found_text : Found → List ℕ
 found_text (Answered answer) = answer_text answer
 found_text (TooLong most) = codes "it has more than " ++ decimal most ++ codes " bytes"
 found_text NotText = codes "it is not UTF-8"
 found_text (NotToml line) = codes "line " ++ decimal line ++ codes " is not TOML"
 found_text NotTable = codes "it is TOML, but no table of homes"
+found_text (OddKey part key) = codes "it is TOML, but no table of homes: " ++ (part_text part ++ (codes " has the key " ++ key.bytes.items))
+found_text (Lacks part key) = codes "it is TOML, but no table of homes: " ++ (part_text part ++ (codes " has no text at the key " ++ key.bytes.items))
 found_text NoNodes = codes "it names no node"
 found_text TwiceNamed = codes "it has the name of a node or a prefix twice"
 found_text NoHome = codes "it has a home at a node that it does not name"

@@ -1,7 +1,7 @@
 //! What was tried where the program ended, and what was found.
 
 ghost use Rattle.std.specs.Prelude.{◌≡◌, ◌++◌, codes, Some, IfSome};
-ghost use Rattle.cli_stops.specs.Causes.{cause_text, found_text, tried_text};
+ghost use Rattle.cli_stops.specs.Causes.{cause_text, found_text, part_text, tried_text};
 
 use crate::answer::Answer;
 use std::alloc::Global;
@@ -24,6 +24,29 @@ pub enum Tried {
     Printing,
 }
 
+/// A part of a table of homes, as its file has it. Its `Display` is the words for it.
+#[derive(Clone, Copy, Debug, PartialEq, Eq)]
+pub enum TablePart {
+    /// What stands before the first node and the first home.
+    Front,
+    /// The node of this number, from 1, in the order of the file.
+    Node(u64),
+    /// The home of this number, from 1, in the order of the file.
+    Home(u64),
+}
+
+impl fmt::Display for TablePart {
+    ghost output = { λ part. Some (part_text part) };
+
+    fn fmt<W: fmt::Write>(&self, f: &mut fmt::Formatter<W>) -> fmt::Result {
+        match self {
+            TablePart::Front => write!(f, "the front"),
+            TablePart::Node(number) => write!(f, "[[node]] number {number}"),
+            TablePart::Home(number) => write!(f, "[[home]] number {number}"),
+        }
+    }
+}
+
 /// What was found. Its `Display` is the words for it.
 #[derive(Debug, PartialEq, Eq, Drop)]
 pub enum Found {
@@ -37,6 +60,10 @@ pub enum Found {
     NotToml(u64),
     /// The text is TOML, but no table of homes.
     NotTable,
+    /// The text is TOML, but no table of homes: this part of it has a key that it may not have.
+    OddKey(TablePart, String),
+    /// The text is TOML, but no table of homes: this part of it has no text at this key.
+    Lacks(TablePart, String),
     /// The table names no node.
     NoNodes,
     /// The table has a name or a prefix twice.
@@ -107,6 +134,14 @@ impl fmt::Display for Found {
             Found::NotText => write!(f, "it is not UTF-8"),
             Found::NotToml(line) => write!(f, "line {line} is not TOML"),
             Found::NotTable => write!(f, "it is TOML, but no table of homes"),
+            Found::OddKey(part, key) => write!(
+                f,
+                "it is TOML, but no table of homes: {part} has the key {key}"
+            ),
+            Found::Lacks(part, key) => write!(
+                f,
+                "it is TOML, but no table of homes: {part} has no text at the key {key}"
+            ),
             Found::NoNodes => write!(f, "it names no node"),
             Found::TwiceNamed => write!(f, "it has the name of a node or a prefix twice"),
             Found::NoHome => write!(f, "it has a home at a node that it does not name"),

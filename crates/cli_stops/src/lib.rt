@@ -10,7 +10,7 @@ mod run_fault;
 mod stop;
 
 pub use answer::{Answer, answer_of};
-pub use cause::{Cause, Found, Tried};
+pub use cause::{Cause, Found, TablePart, Tried};
 pub use ending::Ending;
 pub use faults::{rows_fault, script_fault, table_fault};
 pub use run_fault::RunFault;
